@@ -1,0 +1,54 @@
+-- Items, and what a pair of times says of one.
+use mathlib.Core.Bool.{Bool, false, cond}
+use Prim.Native.Nat.{ℕ, _≤_, _<_, _+_, _-_}
+use lib.Dec.{leb, ltb}
+use Rattle.model.specs.declared.arc.Arc.{Arc}
+use Rattle.model.specs.declared.item.Item.{Item}
+use Rattle.model.specs.declared.times.Times.{Times}
+
+-- what stands past the end of a list
+abbrev pub noItem : Item
+noItem = record { class = 0; station = 0; mark = 0; priority = 0; queue = 0; size = 0; period = 0; duration = 0; held = 0; offset = 0; deadline = 0 }
+
+abbrev pub noTimes : Times
+noTimes = record { late = 0; wait = 0 }
+
+abbrev pub noArc : Arc
+noArc = record { from = 0; to = 0 }
+
+-- the end of an item: late + wait + duration
+abbrev pub endOf : Item → Times → ℕ
+endOf x t = t .late + t .wait + x .duration
+
+-- its jitter: late - offset, and 0 where that is negative, as `-` stops at 0
+abbrev pub jitterOf : Item → Times → ℕ
+jitterOf x t = t .late - x .offset
+
+-- is the period 1 to 1,000,000?
+abbrev pub hasPeriod : Item → Bool
+hasPeriod x = cond (leb 1 (x .period)) (leb (x .period) 1000000) false
+
+-- is 1 ≤ duration ≤ deadline ≤ period?
+abbrev pub hasLimits : Item → Bool
+hasLimits x = cond (leb 1 (x .duration)) (cond (leb (x .duration) (x .deadline)) (leb (x .deadline) (x .period)) false) false
+
+-- is the mark 0 or 1, held ≤ duration and offset < period?
+abbrev pub hasStart : Item → Bool
+hasStart x = cond (leb (x .mark) 1) (cond (leb (x .held) (x .duration)) (ltb (x .offset) (x .period)) false) false
+
+-- a valid record: these three questions are answered with yes. In the logic a field is any number,
+-- so a byte's width is said too
+pub record Valid (x : Item) : Type 0 where
+  pub period-low : 1 ≤ x .period
+  pub period-high : x .period ≤ 1000000
+  pub duration-low : 1 ≤ x .duration
+  pub duration-high : x .duration ≤ x .deadline
+  pub deadline-high : x .deadline ≤ x .period
+  pub mark-bit : x .mark ≤ 1
+  pub held-within : x .held ≤ x .duration
+  pub offset-within : x .offset < x .period
+  pub class-fits : x .class ≤ 255
+  pub station-fits : x .station ≤ 255
+  pub priority-fits : x .priority ≤ 255
+  pub queue-fits : x .queue ≤ 255
+  pub size-fits : x .size ≤ 255

@@ -1,0 +1,61 @@
+-- Sums and largests: a step of their loops, that they rise with their terms, and how large they get.
+use mathlib.Core.Path.{_≡_}
+use mathlib.Core.List.{List}
+use mathlib.Core.Bool.{Bool, true, false, cond}
+use Prim.Native.Nat.{ℕ, zero, suc, max, _≤_, _<_, _+_, _*_}
+use native.Mathlib.Nat.{add-le-add, le-trans, mul-le-mul-right}
+use native.Mathlib.Numerals.{add-one}
+use native.Mathlib.Omega.{arith}
+use lib.ListN.{length, getD}
+use Rattle.model.specs.declared.item.Item.{Item}
+use Rattle.model.specs.declared.times.Times.{Times}
+use Rattle.model.specs.Items.{noItem, noTimes}
+use Rattle.model.specs.Laws.{Handed, Monotone}
+use Rattle.rules.specs.Sums.{sumTo, largestTo, isStronger, isWeaker, Part, partAt, overStronger, figureAt, Small, Fair}
+
+sumTo-rises : (f g : ℕ → ℕ) (n : ℕ) → ((j : ℕ) → j < n → f j ≤ g j) → sumTo f n ≤ sumTo g n
+sumTo-rises f g zero h = omega arith
+sumTo-rises f g (suc n) h = add-le-add (sumTo-rises f g n (λ j lt. h j (omega arith))) (h n (omega arith))
+
+sumTo-small : (f : ℕ → ℕ) (m n : ℕ) → ((j : ℕ) → j < n → f j ≤ m) → sumTo f n ≤ n * m
+sumTo-small f m zero h = omega arith
+sumTo-small f m (suc n) h = omega (arith, sumTo-small f m n (λ j lt. h j (omega arith)), h n (omega arith))
+
+cond-rises : (b : Bool) {m n : ℕ} → m ≤ n → cond b m 0 ≤ cond b n 0
+cond-rises true h = h
+cond-rises false h = omega arith
+
+cond-small : (b : Bool) {m n : ℕ} → m ≤ n → cond b m 0 ≤ n
+cond-small true h = h
+cond-small false h = omega arith
+
+pub handed-small : (items : List Item) (s : List Times) → Handed items s → (i : ℕ) → i < length items → Small (getD s i noTimes)
+handed-small items s hs i h = record { late = hs .late-small i h; wait = hs .wait-small i h }
+
+-- the one monotonicity of all the sums
+pub overStronger-monotone : (m : ℕ) (f : Part) → Fair m f → Monotone (overStronger f)
+overStronger-monotone m f fair items s t i hs ht lo h =
+    sumTo-rises (partAt f items s i) (partAt f items t i) (length items)
+    (λ j lt. cond-rises (isStronger (getD items i noItem) (getD items j noItem)) (fair .rises _ _ _ _ _ _ (hs .valid i h) (hs .valid j lt) (lo .wait i) (lo .late j)))
+
+pub sum-of-parts-small : (m : ℕ) (f : Part) → Fair m f → (items : List Item) (s : List Times) (i n : ℕ) → Handed items s → i < length items → n ≤ length items → sumTo (partAt f items s i) n ≤ 64 * m
+sum-of-parts-small m f fair items s i n hs h le =
+    le-trans
+    (sumTo-small (partAt f items s i) m n (λ j lt.
+        let k : j < length items = omega arith in
+        cond-small (isStronger (getD items i noItem) (getD items j noItem)) (fair .small _ _ _ _ (hs .valid i h) (hs .valid j k) (handed-small items s hs i h) (handed-small items s hs j k))))
+    (mul-le-mul-right m (omega (arith, hs .few)))
+
+-- a turn of the loop that sums: the item at j is stronger, or is not
+pub stronger-yes : (f : Part) (items : List Item) (s : List Times) (i j : ℕ) → true ≡ isStronger (getD items i noItem) (getD items j noItem) → sumTo (partAt f items s i) (j + 1) ≡ sumTo (partAt f items s i) j + f (getD items i noItem) (getD s i noTimes) (getD items j noItem) (getD s j noTimes)
+stronger-yes f items s i j e = rw (add-one, ← e)
+
+pub stronger-no : (f : Part) (items : List Item) (s : List Times) (i j : ℕ) → false ≡ isStronger (getD items i noItem) (getD items j noItem) → sumTo (partAt f items s i) (j + 1) ≡ sumTo (partAt f items s i) j
+stronger-no f items s i j e = rw (add-one, ← e) (omega arith)
+
+-- a turn of the loop that takes the largest
+pub weaker-yes : (f : Item → ℕ) (items : List Item) (i j : ℕ) → true ≡ isWeaker (getD items i noItem) (getD items j noItem) → largestTo (figureAt f items i) (j + 1) ≡ max (largestTo (figureAt f items i) j) (f (getD items j noItem))
+weaker-yes f items i j e = rw (add-one, ← e)
+
+pub weaker-no : (f : Item → ℕ) (items : List Item) (i j : ℕ) → false ≡ isWeaker (getD items i noItem) (getD items j noItem) → largestTo (figureAt f items i) (j + 1) ≡ largestTo (figureAt f items i) j
+weaker-no f items i j e = rw (add-one, ← e) (omega arith)

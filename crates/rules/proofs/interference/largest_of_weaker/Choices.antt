@@ -1,0 +1,6 @@
+use mathlib.Core.Path.{_≡_}
+use Rattle.rules.specs.Sums.{largestTo, figureAt}
+use Rattle.rules.proofs.interference.largest_of_weaker.Given as given
+
+abbrev pub Inv-loop-j : given.InvT-loop-j
+Inv-loop-j g l = l .largest ≡ largestTo (figureAt (g .B·Blocking .figure) (l .items) (l .i)) (l .j)

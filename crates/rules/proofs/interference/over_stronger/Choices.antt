@@ -1,0 +1,6 @@
+use mathlib.Core.Path.{_≡_}
+use Rattle.rules.specs.Sums.{sumTo, partAt}
+use Rattle.rules.proofs.interference.over_stronger.Given as given
+
+abbrev pub Inv-loop-j : given.InvT-loop-j
+Inv-loop-j g l = l .sum ≡ sumTo (partAt (g .C·Contribution .part) (l .items) (l .times) (l .i)) (l .j)

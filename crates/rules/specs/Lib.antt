@@ -1,0 +1,7 @@
+pub mod Stations
+pub mod Sums
+pub mod Table
+pub mod Processor
+pub mod Can
+pub mod Gateway
+pub mod Bank

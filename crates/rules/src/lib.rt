@@ -1,0 +1,8 @@
+//! The rules of the machine: four classes, the bank that dispatches to them, and the empty bank.
+pub mod bank;
+pub mod can;
+pub mod gateway;
+mod interference;
+pub mod processor;
+pub mod stations;
+pub mod table;
