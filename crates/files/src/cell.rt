@@ -63,21 +63,15 @@ impl Intake for Classes as ClassesIntake {
     }
 }
 
-/// Makes the bank that the cell file tells of: all the classes, each with its stations there. A
-/// refused file leaves the bank with no station at all.
-pub fn load_bank(bank: &mut AllClasses, file: &[u8]) -> Result<(), Fault>
-    ensures answer { λ r. ⌜ r ≡ answerOf (classesOf (now (file .entry))) ⌝ }
-    ensures left { λ _. ⌜ now (bank .exit) ≡ bankOf (orNone (classesOf (now (file .entry)))) ⌝ }
+/// Makes the bank that the cell file tells of: all the classes, each with its stations there. The
+/// bank of a refused file has no station at all.
+pub fn make_bank(file: &[u8]) -> (AllClasses, Result<(), Fault>)
+    ensures bank { λ r. ⌜ r .0 ≡ bankOf (orNone (classesOf (now (file .entry)))) ⌝ }
+    ensures answer { λ r. ⌜ r .1 ≡ answerOf (classesOf (now (file .entry))) ⌝ }
 {
     let mut classes = Classes::none();
     match take_all(&mut classes, SourceFile::Cell, file) {
-        Ok(()) => {
-            *bank = classes.into_bank();
-            Ok(())
-        }
-        Err(fault) => {
-            *bank = Classes::none().into_bank();
-            Err(fault)
-        }
+        Ok(()) => (classes.into_bank(), Ok(())),
+        Err(fault) => (Classes::none().into_bank(), Err(fault)),
     }
 }

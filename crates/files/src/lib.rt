@@ -8,3 +8,5 @@ pub mod process;
 pub mod record;
 mod rows;
 mod station;
+#[cfg(test)]
+mod tests;
