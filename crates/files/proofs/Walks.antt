@@ -6,9 +6,9 @@ use native.Mathlib.Omega.{arith}
 use lib.ListN.{length, drop}
 use Rattle.std.specs.declared.result.Result.{Result}
 use Rattle.std.specs.declared.result.Result.the-variants.{Ok, Err}
-use Rattle.files.specs.declared.fault.Fault.{Fault}
-use Rattle.files.specs.declared.fault.Refusal.{Refusal}
-use Rattle.files.specs.declared.fault.SourceFile.{SourceFile}
+use Rattle.records.specs.declared.fault.Fault.{Fault}
+use Rattle.records.specs.declared.fault.Refusal.{Refusal}
+use Rattle.records.specs.declared.fault.SourceFile.{SourceFile}
 use Rattle.files.specs.Rows.{walk}
 
 module _ {S : Type 0} (step : List ℕ → S → Result (S × ℕ) Refusal) (file : SourceFile) where

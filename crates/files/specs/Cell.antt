@@ -7,30 +7,30 @@ use Rattle.std.specs.declared.option.Option.{Option}
 use Rattle.std.specs.declared.option.Option.the-variants.{Some, None}
 use Rattle.std.specs.declared.result.Result.{Result}
 use Rattle.std.specs.declared.result.Result.the-variants.{Ok, Err}
-use Rattle.rules.specs.declared.bank.Bank.{Bank}
-use Rattle.rules.specs.declared.bank.EmptyBank.{EmptyBank}
+use Rattle.bank.specs.declared.bank.Bank.{Bank}
+use Rattle.bank.specs.declared.bank.EmptyBank.{EmptyBank}
 use Rattle.rules.specs.declared.can.Can.{Can}
 use Rattle.rules.specs.declared.gateway.Gateway.{Gateway}
 use Rattle.rules.specs.declared.processor.Processor.{Processor}
 use Rattle.rules.specs.declared.table.Table.{Table}
 use Rattle.rules.specs.Stations.{isFree}
 use Rattle.files.specs.declared.cell.Classes.{Classes}
-use Rattle.files.specs.declared.fault.Fault.{Fault}
-use Rattle.files.specs.declared.fault.Refusal.{Refusal}
-use Rattle.files.specs.declared.fault.Refusal.the-variants.{StrangeKind, TakenStation}
-use Rattle.files.specs.declared.fault.SourceFile.the-variants.{Cell}
-use Rattle.files.specs.declared.record.Figures.{Figures}
-use Rattle.files.specs.declared.record.Figures.the-variants.{Table as OfTable, Processor as OfProcessor, Can as OfCan, Gateway as OfGateway}
-use Rattle.files.specs.Records.{Said, station, item, arc}
+use Rattle.records.specs.declared.fault.Fault.{Fault}
+use Rattle.records.specs.declared.fault.Refusal.{Refusal}
+use Rattle.records.specs.declared.fault.Refusal.the-variants.{StrangeKind, TakenStation}
+use Rattle.records.specs.declared.fault.SourceFile.the-variants.{Cell}
+use Rattle.records.specs.declared.record.Figures.{Figures}
+use Rattle.records.specs.declared.record.Figures.the-variants.{Table as OfTable, Processor as OfProcessor, Can as OfCan, Gateway as OfGateway}
+use Rattle.records.specs.Records.{Said, station, item, arc}
 use Rattle.files.specs.Rows.{rowsOf}
 
 abbrev pub noStations : Classes
 noStations =
     record {
-        table = record { stations = record { figures = replicate 8 None } };
-        processor = record { stations = record { figures = replicate 8 None } };
-        can = record { stations = record { figures = replicate 8 None } };
-        gateway = record { stations = record { figures = replicate 8 None } }
+      table = record { stations = record { figures = replicate 8 None } };
+      processor = record { stations = record { figures = replicate 8 None } };
+      can = record { stations = record { figures = replicate 8 None } };
+      gateway = record { stations = record { figures = replicate 8 None } };
     }
 
 -- is the station new in its class? then it is added there
@@ -53,7 +53,7 @@ abbrev pub classesOf : List ℕ → Result Classes Fault
 classesOf bs = rowsOf withRecord Cell bs noStations
 
 abbrev pub bankOf : Classes → Bank Table (Bank Processor (Bank Can (Bank Gateway EmptyBank)))
-bankOf c = record { front = c .table; behind = record { front = c .processor; behind = record { front = c .can; behind = record { front = c .gateway; behind = record { } } } } }
+bankOf c = record { front = c .table; behind = record { front = c .processor; behind = record { front = c .can; behind = record { front = c .gateway; behind = record {} } } } }
 
 -- a refused file leaves no station
 abbrev pub orNone : Result Classes Fault → Classes

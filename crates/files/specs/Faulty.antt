@@ -2,12 +2,12 @@
 use mathlib.Core.List.{List, []}
 use Prim.Native.Nat.{ℕ, _+_}
 use lib.ListN.{take, drop}
-use Rattle.files.specs.declared.fault.Fault.{Fault}
-use Rattle.files.specs.declared.fault.Refusal.{Refusal}
-use Rattle.files.specs.declared.fault.Refusal.the-variants.{TooLong, NotWhole, StrangeKind, WrongLength, OutOfRange, TakenStation, BadName}
-use Rattle.files.specs.declared.fault.SourceFile.{SourceFile}
-use Rattle.files.specs.declared.fault.SourceFile.the-variants.{Cell, Process}
-use Rattle.files.specs.Bytes.{two}
+use Rattle.records.specs.declared.fault.Fault.{Fault}
+use Rattle.records.specs.declared.fault.Refusal.{Refusal}
+use Rattle.records.specs.declared.fault.Refusal.the-variants.{TooLong, NotWhole, StrangeKind, WrongLength, OutOfRange, TakenStation, BadName}
+use Rattle.records.specs.declared.fault.SourceFile.{SourceFile}
+use Rattle.records.specs.declared.fault.SourceFile.the-variants.{Cell, Process}
+use Rattle.records.specs.Bytes.{two}
 
 abbrev pub fileOf : SourceFile → List ℕ → List ℕ → List ℕ
 fileOf Cell cell process = cell

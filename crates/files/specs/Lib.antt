@@ -1,8 +1,3 @@
-pub mod Faults
-pub mod Bytes
-pub mod Stations
-pub mod Items
-pub mod Records
 pub mod Rows
 pub mod Cell
 pub mod Process

@@ -6,11 +6,11 @@ use lib.Dec.{leb}
 use lib.ListN.{length}
 use Rattle.std.specs.declared.result.Result.{Result}
 use Rattle.std.specs.declared.result.Result.the-variants.{Ok, Err}
-use Rattle.files.specs.declared.fault.Fault.{Fault}
-use Rattle.files.specs.declared.fault.Refusal.{Refusal}
-use Rattle.files.specs.declared.fault.Refusal.the-variants.{TooLong}
-use Rattle.files.specs.declared.fault.SourceFile.{SourceFile}
-use Rattle.files.specs.Records.{Said, then, recordOf}
+use Rattle.records.specs.declared.fault.Fault.{Fault}
+use Rattle.records.specs.declared.fault.Refusal.{Refusal}
+use Rattle.records.specs.declared.fault.Refusal.the-variants.{TooLong}
+use Rattle.records.specs.declared.fault.SourceFile.{SourceFile}
+use Rattle.records.specs.Records.{Said, then, recordOf}
 
 -- what an answer says of the state that it leaves
 abbrev pub leftAs : {S E : Type 0} → Result (Unit {0}) E → S → Result S E

@@ -1,13 +1,13 @@
 ghost use mathlib.Core.Path.{_≡_};
 ghost use Rattle.files.specs.Cell.{noStations, withRecord, classesOf, bankOf, orNone};
 ghost use Rattle.files.specs.Rows.{answerOf};
-use crate::fault::Fault;
-use crate::fault::Refusal;
-use crate::fault::SourceFile;
-use crate::record::Figures;
-use crate::record::Record;
 use crate::rows::Intake;
 use crate::rows::take_all;
+use records::fault::Fault;
+use records::fault::Refusal;
+use records::fault::SourceFile;
+use records::record::Figures;
+use records::record::Record;
 use rules::all::AllClasses;
 use rules::all::all_classes;
 use rules::can::Can;
@@ -31,17 +31,30 @@ impl Classes {
         ensures { λ r. ⌜ r ≡ noStations ⌝ }
     {
         Classes {
-            table: Table { stations: Stations::none() },
-            processor: Processor { stations: Stations::none() },
-            can: Can { stations: Stations::none() },
-            gateway: Gateway { stations: Stations::none() },
+            table: Table {
+                stations: Stations::none(),
+            },
+            processor: Processor {
+                stations: Stations::none(),
+            },
+            can: Can {
+                stations: Stations::none(),
+            },
+            gateway: Gateway {
+                stations: Stations::none(),
+            },
         }
     }
 
     fn into_bank(self) -> AllClasses
         ensures { λ r. ⌜ r ≡ bankOf self ⌝ }
     {
-        let Classes { table, processor, can, gateway } = self;
+        let Classes {
+            table,
+            processor,
+            can,
+            gateway,
+        } = self;
         all_classes(table, processor, can, gateway)
     }
 }
@@ -59,7 +72,11 @@ impl Intake for Classes as ClassesIntake {
             Figures::Can(bus) => self.can.stations.add(new.station, bus),
             Figures::Gateway(slot) => self.gateway.stations.add(new.station, slot),
         };
-        if added { Ok(()) } else { Err(Refusal::TakenStation) }
+        if added {
+            Ok(())
+        } else {
+            Err(Refusal::TakenStation)
+        }
     }
 }
 

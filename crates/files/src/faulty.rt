@@ -1,10 +1,10 @@
 ghost use mathlib.Core.Path.{_≡_};
 ghost use lib.ListN.{drop};
 ghost use Rattle.files.specs.Faulty.{fileOf, frontOf, faultyOf};
-use crate::bytes::cut;
-use crate::fault::Fault;
-use crate::fault::Refusal;
-use crate::fault::SourceFile;
+use records::bytes::cut;
+use records::fault::Fault;
+use records::fault::Refusal;
+use records::fault::SourceFile;
 
 /// Whichever of the two files is meant.
 fn pick<'a>(cell: &'a [u8], process: &'a [u8], file: SourceFile) -> &'a [u8]
@@ -20,7 +20,11 @@ fn pick<'a>(cell: &'a [u8], process: &'a [u8], file: SourceFile) -> &'a [u8]
 fn from_place<'a>(bytes: &'a [u8], place: usize) -> &'a [u8]
     ensures { λ r. ⌜ now r ≡ drop place (now (bytes .entry)) ⌝ }
 {
-    if place > bytes.len() { &[] } else { &bytes[place..] }
+    if place > bytes.len() {
+        &[]
+    } else {
+        &bytes[place..]
+    }
 }
 
 /// The record in front with its head, or all bytes where it is not whole.

@@ -1,12 +1,7 @@
-//! The two files: rows of records, the questions put to them, and what they make.
-mod bytes;
+//! The two files: rows of records taken in one after the other, and what they make.
 pub mod cell;
-pub mod fault;
 pub mod faulty;
-mod item;
 pub mod process;
-pub mod record;
 mod rows;
-mod station;
 #[cfg(test)]
 mod tests;

@@ -1,12 +1,12 @@
 ghost use mathlib.Core.Path.{_≡_};
 ghost use Rattle.files.specs.Process.{checkOf};
 ghost use Rattle.std.specs.declared.result.Result.the-variants.{Ok};
-use crate::fault::Fault;
-use crate::fault::Refusal;
-use crate::fault::SourceFile;
-use crate::record::Record;
 use crate::rows::Intake;
 use crate::rows::take_all;
+use records::fault::Fault;
+use records::fault::Refusal;
+use records::fault::SourceFile;
+use records::record::Record;
 
 /// Takes in any record, and keeps nothing.
 #[derive(Drop)]

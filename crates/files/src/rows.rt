@@ -3,14 +3,14 @@ ghost use Prim.Native.Nat.{_<_, _≤_};
 ghost use lib.ListN.{length};
 ghost use Rattle.std.specs.Vec.{made};
 ghost use Rattle.std.specs.declared.result.Result.{Result};
-ghost use Rattle.files.specs.declared.fault.Refusal.{Refusal};
-ghost use Rattle.files.specs.Records.{Said, said};
+ghost use Rattle.records.specs.declared.fault.Refusal.{Refusal};
+ghost use Rattle.records.specs.Records.{Said, said};
 ghost use Rattle.files.specs.Rows.{leftAs, stepOf, stepAs, rowsOf};
-use crate::fault::Fault;
-use crate::fault::Refusal;
-use crate::fault::SourceFile;
-use crate::record::Record;
-use crate::record::first_record;
+use records::fault::Fault;
+use records::fault::Refusal;
+use records::fault::SourceFile;
+use records::record::Record;
+use records::record::first_record;
 
 /// What takes in the records of a file, one after the other.
 pub(crate) trait Intake {
@@ -31,17 +31,29 @@ fn take_first<I: Intake>(intake: &mut I, file: SourceFile, bytes: &[u8]) -> Resu
 }
 
 /// Takes in all records of a file, up to the first fault.
-pub(crate) fn take_all<I: Intake>(intake: &mut I, file: SourceFile, bytes: &[u8]) -> Result<(), Fault>
+pub(crate) fn take_all<I: Intake>(
+    intake: &mut I,
+    file: SourceFile,
+    bytes: &[u8],
+) -> Result<(), Fault>
     ensures { λ r. ⌜ leftAs r (now (intake .exit)) ≡ rowsOf (I·Intake .takes) file (now (bytes .entry)) (now (intake .entry)) ⌝ }
 {
     if bytes.len() > 16_384 {
-        return Err(Fault { refusal: Refusal::TooLong, place: 0, file });
+        return Err(Fault {
+            refusal: Refusal::TooLong,
+            place: 0,
+            file,
+        });
     }
     let mut place = 0;
     while place < bytes.len() {
         match take_first(intake, file, &bytes[place..]) {
             Ok(length) => place += length,
-            Err(refusal) => return Err(Fault { refusal, place, file }),
+            Err(refusal) => return Err(Fault {
+                refusal,
+                place,
+                file,
+            }),
         }
     }
     Ok(())

@@ -1,19 +1,17 @@
 use crate::cell::make_bank;
-use crate::fault::Fault;
-use crate::fault::FaultDisplay;
-use crate::fault::Layer;
-use crate::fault::LayerDebug;
-use crate::fault::LayerPartialEq;
-use crate::fault::Refusal;
-use crate::fault::SourceFile;
 use crate::faulty::faulty;
 use crate::process::check_process;
-use crate::record::Record;
-use crate::record::first_record;
+use bank::bank::BankRule;
+use bank::bank::EmptyRule;
 use model::item::Item;
 use model::rule::Rule;
-use rules::bank::BankRule;
-use rules::bank::EmptyRule;
+use records::fault::Fault;
+use records::fault::FaultDisplay;
+use records::fault::Layer;
+use records::fault::Refusal;
+use records::fault::SourceFile;
+use records::record::Record;
+use records::record::first_record;
 use rules::can::CanClass;
 use rules::can::CanRule;
 use rules::gateway::GatewayClass;
@@ -30,7 +28,38 @@ const PROCESSOR: [u8; 16] = [12, 0, 1, 0, 2, 0, 0, 0, 0, 0, 0, 0, 0, 0, 0, 0];
 /// An item of a process file: processor 0, priority 1, period and deadline 1000, duration 300,
 /// offset 2, and the name `ab`.
 const ITEM: [u8; 32] = [
-    28, 0, 2, 0, 2, 0, 0, 1, 0, 0, 232, 3, 0, 0, 44, 1, 0, 0, 0, 0, 0, 0, 2, 0, 0, 0, 232, 3, 0, 0, 97, 98,
+    28,
+    0,
+    2,
+    0,
+    2,
+    0,
+    0,
+    1,
+    0,
+    0,
+    232,
+    3,
+    0,
+    0,
+    44,
+    1,
+    0,
+    0,
+    0,
+    0,
+    0,
+    0,
+    2,
+    0,
+    0,
+    0,
+    232,
+    3,
+    0,
+    0,
+    97,
+    98,
 ];
 
 /// Number and place of a fault.
@@ -77,7 +106,10 @@ fn kinds_and_body_lengths() -> Result<(), Fail> {
     check_eq(cell_fault(&ITEM), Some((3, 0)))?;
     check_eq(process_fault(&PROCESSOR), Some((3, 0)))?;
     check_eq(process_fault(&[2, 0, 3, 0, 0, 1]), None)?;
-    check_eq(process_fault(&[2, 0, 3, 0, 0, 1, 1, 0, 3, 0, 0]), Some((4, 6)))?;
+    check_eq(
+        process_fault(&[2, 0, 3, 0, 0, 1, 1, 0, 3, 0, 0]),
+        Some((4, 6)),
+    )?;
     check_eq(process_fault(&[2, 0, 2, 0, 0, 1]), Some((4, 0)))?;
     check_eq(cell_fault(&[0, 0, 1, 0]), Some((4, 0)))
 }
@@ -85,7 +117,38 @@ fn kinds_and_body_lengths() -> Result<(), Fail> {
 #[test]
 fn a_station_is_in_range_and_new_in_its_class() -> Result<(), Fail> {
     let mut twice = [
-        12u8, 0, 1, 0, 2, 0, 0, 0, 0, 0, 0, 0, 0, 0, 0, 0, 12, 0, 1, 0, 2, 0, 0, 0, 0, 0, 0, 0, 0, 0, 0, 0,
+        12u8,
+        0,
+        1,
+        0,
+        2,
+        0,
+        0,
+        0,
+        0,
+        0,
+        0,
+        0,
+        0,
+        0,
+        0,
+        0,
+        12,
+        0,
+        1,
+        0,
+        2,
+        0,
+        0,
+        0,
+        0,
+        0,
+        0,
+        0,
+        0,
+        0,
+        0,
+        0,
     ];
     check_eq(cell_fault(&twice), Some((6, 16)))?;
     twice[20] = 1;
@@ -131,20 +194,40 @@ fn a_name_has_small_letters_digits_and_hyphens() -> Result<(), Fail> {
 #[test]
 fn the_faulty_part_is_in_the_file_that_the_fault_names() -> Result<(), Fail> {
     let process = [2u8, 0, 3, 0, 0, 1, 1, 0, 3, 0, 7, 9];
-    let short = Fault { refusal: Refusal::WrongLength, place: 6, file: SourceFile::Process };
+    let short = Fault {
+        refusal: Refusal::WrongLength,
+        place: 6,
+        file: SourceFile::Process,
+    };
     check(faulty(&PROCESSOR, &process, &short) == &[1u8, 0, 3, 0, 7])?;
-    let torn = Fault { refusal: Refusal::NotWhole, place: 11, file: SourceFile::Process };
+    let torn = Fault {
+        refusal: Refusal::NotWhole,
+        place: 11,
+        file: SourceFile::Process,
+    };
     check(faulty(&PROCESSOR, &process, &torn) == &[9u8])?;
-    let long = Fault { refusal: Refusal::TooLong, place: 0, file: SourceFile::Process };
+    let long = Fault {
+        refusal: Refusal::TooLong,
+        place: 0,
+        file: SourceFile::Process,
+    };
     check_eq(faulty(&PROCESSOR, &process, &long).len(), 0)?;
-    let strange = Fault { refusal: Refusal::StrangeKind, place: 0, file: SourceFile::Cell };
+    let strange = Fault {
+        refusal: Refusal::StrangeKind,
+        place: 0,
+        file: SourceFile::Cell,
+    };
     check(faulty(&PROCESSOR, &process, &strange) == &PROCESSOR)?;
-    check_eq(strange.layer(), Layer::File)
+    check(matches!(strange.layer(), Layer::File))
 }
 
 #[test]
 fn a_fault_prints_its_file_place_and_number(rt: LibcRuntime) -> Result<(), Fail> {
-    let fault = Fault { refusal: Refusal::BadName, place: 38, file: SourceFile::Process };
+    let fault = Fault {
+        refusal: Refusal::BadName,
+        place: 38,
+        file: SourceFile::Process,
+    };
     let text = format!(rt.alloc(), "{fault}")?;
     check(text.as_str() == "fault process 38 7")
 }

@@ -1,5 +1,5 @@
 -- Items, and what a pair of times says of one.
-use mathlib.Core.Bool.{Bool, false, cond}
+use mathlib.Core.Bool.{Bool, _&&_}
 use Prim.Native.Nat.{ℕ, _≤_, _<_, _+_, _-_}
 use lib.Dec.{leb, ltb}
 use Rattle.model.specs.declared.arc.Arc.{Arc}
@@ -26,18 +26,25 @@ jitterOf x t = t .late - x .offset
 
 -- is the period 1 to 1,000,000?
 abbrev pub hasPeriod : Item → Bool
-hasPeriod x = cond (leb 1 (x .period)) (leb (x .period) 1000000) false
+hasPeriod x = leb 1 (x .period) && leb (x .period) 1000000
 
 -- is 1 ≤ duration ≤ deadline ≤ period?
 abbrev pub hasLimits : Item → Bool
-hasLimits x = cond (leb 1 (x .duration)) (cond (leb (x .duration) (x .deadline)) (leb (x .deadline) (x .period)) false) false
+hasLimits x = leb 1 (x .duration) && leb (x .duration) (x .deadline) && leb (x .deadline) (x .period)
 
 -- is the mark 0 or 1, held ≤ duration and offset < period?
 abbrev pub hasStart : Item → Bool
-hasStart x = cond (leb (x .mark) 1) (cond (leb (x .held) (x .duration)) (ltb (x .offset) (x .period)) false) false
+hasStart x = leb (x .mark) 1 && leb (x .held) (x .duration) && ltb (x .offset) (x .period)
 
--- a valid record: these three questions are answered with yes. In the logic a field is any number,
--- so a byte's width is said too
+-- in the logic a field is any number, so that these are bytes is to be said
+pub record Bytes (x : Item) : Type 0 where
+  pub class-fits : x .class ≤ 255
+  pub station-fits : x .station ≤ 255
+  pub priority-fits : x .priority ≤ 255
+  pub queue-fits : x .queue ≤ 255
+  pub size-fits : x .size ≤ 255
+
+-- a valid record: the three questions above are answered with yes
 pub record Valid (x : Item) : Type 0 where
   pub period-low : 1 ≤ x .period
   pub period-high : x .period ≤ 1000000
@@ -47,8 +54,4 @@ pub record Valid (x : Item) : Type 0 where
   pub mark-bit : x .mark ≤ 1
   pub held-within : x .held ≤ x .duration
   pub offset-within : x .offset < x .period
-  pub class-fits : x .class ≤ 255
-  pub station-fits : x .station ≤ 255
-  pub priority-fits : x .priority ≤ 255
-  pub queue-fits : x .queue ≤ 255
-  pub size-fits : x .size ≤ 255
+  pub bytes : Bytes x

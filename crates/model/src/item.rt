@@ -1,9 +1,9 @@
 ghost use mathlib.Core.Path.{_≡_};
-ghost use mathlib.Core.Bool.{Bool, true};
+ghost use mathlib.Core.Bool.{true};
 ghost use Rattle.model.specs.Items.{hasPeriod, hasLimits, hasStart, Valid};
 
 /// An item: a process, or one hop of a message. Times are whole ticks of 1 µs.
-#[derive(Clone, Copy, Debug, PartialEq, Eq)]
+#[derive(Clone, Copy)]
 pub struct Item {
     /// Which kind of resource it uses; a class rule has a fixed class number.
     pub class: u8,

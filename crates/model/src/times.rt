@@ -3,7 +3,7 @@ ghost use Rattle.model.specs.Items.{endOf, jitterOf};
 use crate::item::Item;
 
 /// What a set of times gives one item.
-#[derive(Clone, Copy, Debug, PartialEq, Eq)]
+#[derive(Clone, Copy)]
 pub struct Times {
     /// The late time: its latest release.
     pub late: u32,

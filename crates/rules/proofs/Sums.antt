@@ -1,9 +1,9 @@
--- Sums and largests: a step of their loops, that they rise with their terms, and how large they get.
+-- The sums over the stronger: that they rise with the times, how large they get, and a turn of each loop.
 use mathlib.Core.Path.{_≡_}
 use mathlib.Core.List.{List}
-use mathlib.Core.Bool.{Bool, true, false, cond}
-use Prim.Native.Nat.{ℕ, zero, suc, max, _≤_, _<_, _+_, _*_}
-use native.Mathlib.Nat.{add-le-add, le-trans, mul-le-mul-right}
+use mathlib.Core.Bool.{true, false}
+use Prim.Native.Nat.{ℕ, max, _≤_, _<_, _+_, _*_}
+use native.Mathlib.Nat.{le-trans, mul-le-mul-right}
 use native.Mathlib.Numerals.{add-one}
 use native.Mathlib.Omega.{arith}
 use lib.ListN.{length, getD}
@@ -11,25 +11,11 @@ use Rattle.model.specs.declared.item.Item.{Item}
 use Rattle.model.specs.declared.times.Times.{Times}
 use Rattle.model.specs.Items.{noItem, noTimes}
 use Rattle.model.specs.Laws.{Handed, Monotone}
-use Rattle.rules.specs.Sums.{sumTo, largestTo, isStronger, isWeaker, Part, partAt, overStronger, figureAt, Small, Fair}
+use Rattle.model.specs.Folds.{sumTo, largestTo}
+use Rattle.model.proofs.Folds.{sumTo-rises, sumTo-small, cond-rises, cond-small}
+use Rattle.rules.specs.Sums.{isStronger, isWeaker, Part, partAt, overStronger, figureAt, Small, Fair}
 
-sumTo-rises : (f g : ℕ → ℕ) (n : ℕ) → ((j : ℕ) → j < n → f j ≤ g j) → sumTo f n ≤ sumTo g n
-sumTo-rises f g zero h = omega arith
-sumTo-rises f g (suc n) h = add-le-add (sumTo-rises f g n (λ j lt. h j (omega arith))) (h n (omega arith))
-
-sumTo-small : (f : ℕ → ℕ) (m n : ℕ) → ((j : ℕ) → j < n → f j ≤ m) → sumTo f n ≤ n * m
-sumTo-small f m zero h = omega arith
-sumTo-small f m (suc n) h = omega (arith, sumTo-small f m n (λ j lt. h j (omega arith)), h n (omega arith))
-
-cond-rises : (b : Bool) {m n : ℕ} → m ≤ n → cond b m 0 ≤ cond b n 0
-cond-rises true h = h
-cond-rises false h = omega arith
-
-cond-small : (b : Bool) {m n : ℕ} → m ≤ n → cond b m 0 ≤ n
-cond-small true h = h
-cond-small false h = omega arith
-
-pub handed-small : (items : List Item) (s : List Times) → Handed items s → (i : ℕ) → i < length items → Small (getD s i noTimes)
+handed-small : (items : List Item) (s : List Times) → Handed items s → (i : ℕ) → i < length items → Small (getD s i noTimes)
 handed-small items s hs i h = record { late = hs .late-small i h; wait = hs .wait-small i h }
 
 -- the one monotonicity of all the sums
@@ -42,8 +28,8 @@ pub sum-of-parts-small : (m : ℕ) (f : Part) → Fair m f → (items : List Ite
 sum-of-parts-small m f fair items s i n hs h le =
     le-trans
     (sumTo-small (partAt f items s i) m n (λ j lt.
-        let k : j < length items = omega arith in
-        cond-small (isStronger (getD items i noItem) (getD items j noItem)) (fair .small _ _ _ _ (hs .valid i h) (hs .valid j k) (handed-small items s hs i h) (handed-small items s hs j k))))
+    let k : j < length items = omega arith in
+    cond-small (isStronger (getD items i noItem) (getD items j noItem)) (fair .small _ _ _ _ (hs .valid i h) (hs .valid j k) (handed-small items s hs i h) (handed-small items s hs j k))))
     (mul-le-mul-right m (omega (arith, hs .few)))
 
 -- a turn of the loop that sums: the item at j is stronger, or is not

@@ -4,4 +4,3 @@ pub mod Table
 pub mod Processor
 pub mod Can
 pub mod Gateway
-pub mod Bank

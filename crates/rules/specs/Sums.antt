@@ -2,11 +2,12 @@
 -- stronger ones.
 use mathlib.Core.Bool.{Bool, cond, _&&_}
 use mathlib.Core.List.{List}
-use Prim.Native.Nat.{ℕ, zero, suc, min, max, _≤_, _+_, _-_, _/_}
+use Prim.Native.Nat.{ℕ, min, max, _≤_, _+_, _-_, _/_}
 use lib.Dec.{eqb, ltb}
 use lib.ListN.{length, getD}
 use Rattle.model.specs.declared.item.Item.{Item}
 use Rattle.model.specs.declared.times.Times.{Times}
+use Rattle.model.specs.Folds.{sumTo, largestTo}
 use Rattle.model.specs.Items.{noItem, noTimes, jitterOf, Valid}
 use Rattle.model.specs.Laws.{Reckoning}
 
@@ -20,16 +21,6 @@ abbrev pub ⌈_/_⌉ : ℕ → ℕ → ℕ
 -- 1,000,001 stands for any larger wait
 abbrev pub capped : ℕ → ℕ
 capped wait = min 1000001 wait
-
--- the sum of f at each number below n
-abbrev pub sumTo : (ℕ → ℕ) → ℕ → ℕ
-sumTo f zero = 0
-sumTo f (suc n) = sumTo f n + f n
-
--- the largest of f at each number below n; a largest of nothing is 0
-abbrev pub largestTo : (ℕ → ℕ) → ℕ → ℕ
-largestTo f zero = 0
-largestTo f (suc n) = max (largestTo f n) (f n)
 
 -- the other is stronger than mine: of the same class and station, with a smaller priority number
 abbrev pub isStronger : Item → Item → Bool

@@ -12,7 +12,7 @@ use model::rule::Rule;
 use model::times::Times;
 
 /// The figures of a CAN bus.
-#[derive(Clone, Copy, Debug, PartialEq, Eq)]
+#[derive(Clone, Copy)]
 pub struct Bus {
     pub ticks_per_bit: u32,
 }
@@ -41,7 +41,11 @@ impl Contribution for Queued as QueuedContribution {
     ghost part = { queued };
 
     fn part(mine: &Item, own: &Times, other: &Item, its: &Times) -> u64 {
-        if mine.queue == other.queue { arrivals(own, other, its) * other.size as u64 } else { 0 }
+        if mine.queue == other.queue {
+            arrivals(own, other, its) * other.size as u64
+        } else {
+            0
+        }
     }
 }
 

@@ -13,7 +13,7 @@ use model::rule::Rule;
 use model::times::Times;
 
 /// The figures of a gateway: its slot in the round of the time-triggered network.
-#[derive(Clone, Copy, Debug, PartialEq, Eq)]
+#[derive(Clone, Copy)]
 pub struct Slot {
     /// How often the slot comes.
     pub round: u32,

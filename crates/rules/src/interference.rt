@@ -28,7 +28,11 @@ fn floor(amount: u64, divisor: u32) -> u64
 pub(crate) fn cap(wait: u64) -> u32
     ensures { λ r. ⌜ r ≡ capped wait ⌝ }
 {
-    if wait < 1_000_001 { wait as u32 } else { 1_000_001 }
+    if wait < 1_000_001 {
+        wait as u32
+    } else {
+        1_000_001
+    }
 }
 
 /// Is the other item of the same class and station, with a smaller priority number?
@@ -103,7 +107,11 @@ fn largest_of_weaker<B: Blocking>(items: &[Item], i: usize) -> u32
 }
 
 /// A wait that is the blocking by the weaker and the contributions of the stronger.
-pub(crate) fn wait_of<B: Blocking, C: Contribution>(items: &[Item], times: &[Times], i: usize) -> u32
+pub(crate) fn wait_of<B: Blocking, C: Contribution>(
+    items: &[Item],
+    times: &[Times],
+    i: usize,
+) -> u32
     requires handed { ⌜ Handed (now items) (now times) ⌝ }
     requires inside { ⌜ i < length (now items) ⌝ }
     ensures { λ r. ⌜ r ≡ waiting (B·Blocking .figure) (C·Contribution .part) (now (items .entry)) (now (times .entry)) i ⌝ }

@@ -1,8 +1,6 @@
-//! The rules of the machine: four classes, the bank that dispatches to them, and the empty bank.
+//! The rules of the machine: table, processor, CAN and gateway, and the bank of them all.
 pub mod all;
-pub mod bank;
 pub mod can;
-pub mod drive;
 pub mod gateway;
 mod interference;
 pub mod processor;

@@ -22,7 +22,11 @@ impl<T: Copy> Stations<T> {
     pub fn get(&self, station: u8) -> Option<T>
         ensures { λ r. ⌜ r ≡ stationAt (now (self .entry) .figures) station ⌝ }
     {
-        if station < 8 { self.figures[station as usize] } else { None }
+        if station < 8 {
+            self.figures[station as usize]
+        } else {
+            None
+        }
     }
 
     /// Adds a station, if its number is 0 to 7 and new here. Otherwise all stays as it was.

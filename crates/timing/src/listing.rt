@@ -1,11 +1,11 @@
 //! What stands in the two files, a line for each record.
-use files::fault::SourceFile;
-use files::record::Figures;
-use files::record::ItemRecord;
-use files::record::Record;
-use files::record::StationRecord;
-use files::record::first_record;
 use model::rule::Rule;
+use records::fault::SourceFile;
+use records::record::Figures;
+use records::record::ItemRecord;
+use records::record::Record;
+use records::record::StationRecord;
+use records::record::first_record;
 use std::io;
 
 /// How many records of each kind were listed.
@@ -26,22 +26,51 @@ fn print_station(rt: &LibcRuntime, row: StationRecord) -> io::Result<()> {
             let round = slot.round;
             let length = slot.length;
             let capacity = slot.capacity;
-            println!(rt, "station {station} gateway round {round} slot {length} capacity {capacity}")
+            println!(
+                rt,
+                "station {station} gateway round {round} slot {length} capacity {capacity}"
+            )
         }
     }
 }
 
-fn print_item(rt: &LibcRuntime, number: usize, row: ItemRecord<'_>, admitted: bool) -> io::Result<()> {
+fn print_item(
+    rt: &LibcRuntime,
+    number: usize,
+    row: ItemRecord<'_>,
+    admitted: bool,
+) -> io::Result<()> {
     let item = row.item;
     print!(rt, "item {number} {}", row.name)?;
-    print!(rt, " class {} station {} mark {}", item.class, item.station, item.mark)?;
-    print!(rt, " priority {} queue {} size {}", item.priority, item.queue, item.size)?;
-    print!(rt, " period {} duration {} held {}", item.period, item.duration, item.held)?;
+    print!(
+        rt,
+        " class {} station {} mark {}",
+        item.class, item.station, item.mark
+    )?;
+    print!(
+        rt,
+        " priority {} queue {} size {}",
+        item.priority, item.queue, item.size
+    )?;
+    print!(
+        rt,
+        " period {} duration {} held {}",
+        item.period, item.duration, item.held
+    )?;
     print!(rt, " offset {} deadline {}", item.offset, item.deadline)?;
-    println!(rt, " {}", if admitted { "admitted" } else { "not admitted" })
+    println!(
+        rt,
+        " {}",
+        if admitted { "admitted" } else { "not admitted" }
+    )
 }
 
-fn print_row<R: Rule>(rt: &LibcRuntime, bank: &R, counts: &mut Counts, row: Record<'_>) -> io::Result<()> {
+fn print_row<R: Rule>(
+    rt: &LibcRuntime,
+    bank: &R,
+    counts: &mut Counts,
+    row: Record<'_>,
+) -> io::Result<()> {
     match row {
         Record::Station(station) => {
             counts.stations = counts.stations.saturating_add(1);
@@ -60,7 +89,13 @@ fn print_row<R: Rule>(rt: &LibcRuntime, bank: &R, counts: &mut Counts, row: Reco
 }
 
 /// Prints each record of a file, up to its end or its first fault.
-pub fn list<R: Rule>(rt: &LibcRuntime, bank: &R, counts: &mut Counts, file: SourceFile, bytes: &[u8]) -> io::Result<()> {
+pub fn list<R: Rule>(
+    rt: &LibcRuntime,
+    bank: &R,
+    counts: &mut Counts,
+    file: SourceFile,
+    bytes: &[u8],
+) -> io::Result<()> {
     let mut rest = bytes;
     while let Ok((row, length)) = first_record(file, rest) {
         print_row(rt, bank, counts, row)?;

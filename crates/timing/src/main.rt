@@ -1,14 +1,15 @@
 //! Reads `cell.bin` and `process.bin` from the current folder, puts the questions of the file layer
 //! to both, and prints what they hold, or the first fault.
 mod listing;
+
 use crate::listing::Counts;
 use crate::listing::list;
+use bank::bank::BankRule;
+use bank::bank::EmptyRule;
 use files::cell::make_bank;
-use files::fault::FaultDisplay;
-use files::fault::SourceFile;
 use files::process::check_process;
-use rules::bank::BankRule;
-use rules::bank::EmptyRule;
+use records::fault::FaultDisplay;
+use records::fault::SourceFile;
 use rules::can::CanClass;
 use rules::can::CanRule;
 use rules::gateway::GatewayClass;
@@ -41,10 +42,18 @@ fn tell(rt: &LibcRuntime, cell: &[u8], process: &[u8]) -> io::Result<()> {
     if let Err(fault) = check_process(process) {
         return println!(rt, "{fault}");
     }
-    let mut counts = Counts { stations: 0, items: 0, arcs: 0 };
+    let mut counts = Counts {
+        stations: 0,
+        items: 0,
+        arcs: 0,
+    };
     list(rt, &bank, &mut counts, SourceFile::Cell, cell)?;
     list(rt, &bank, &mut counts, SourceFile::Process, process)?;
-    println!(rt, "{} stations, {} items, {} arcs", counts.stations, counts.items, counts.arcs)
+    println!(
+        rt,
+        "{} stations, {} items, {} arcs",
+        counts.stations, counts.items, counts.arcs
+    )
 }
 
 fn main(rt: LibcRuntime) -> io::Result<()> {

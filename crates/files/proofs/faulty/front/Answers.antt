@@ -4,7 +4,7 @@ use Prim.Native.Nat.{_≤_, _+_}
 use lib.ListN.{length}
 use Rattle.std.proofs.shelf.Lists.{take-all}
 use Rattle.std.proofs.shelf.Ways.{tells}
-use Rattle.files.specs.Bytes.{two}
+use Rattle.records.specs.Bytes.{two}
 use Rattle.files.proofs.faulty.front.Needs as need
 
 pub returns-in-None : need.returns-in-None

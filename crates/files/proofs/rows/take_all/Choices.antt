@@ -9,7 +9,7 @@ abbrev pub Inv-loop-place : given.InvT-loop-place
 Inv-loop-place g l =
     (l .place ≤ length (l .bytes))
     × (walk (stepOf (g .I·Intake .takes) (l .file)) (l .file) 0 (l .place) (drop (l .place) (l .bytes)) (l .intake)
-       ≡ walk (stepOf (g .I·Intake .takes) (l .file)) (l .file) 0 0 (l .bytes) (l .entry .intake))
+    ≡ walk (stepOf (g .I·Intake .takes) (l .file)) (l .file) 0 0 (l .bytes) (l .entry .intake))
 
 abbrev pub μ-loop-place : given.MeasureT-loop-place
 μ-loop-place g l = length (l .bytes) - l .place

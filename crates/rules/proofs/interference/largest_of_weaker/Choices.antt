@@ -1,5 +1,6 @@
 use mathlib.Core.Path.{_≡_}
-use Rattle.rules.specs.Sums.{largestTo, figureAt}
+use Rattle.model.specs.Folds.{largestTo}
+use Rattle.rules.specs.Sums.{figureAt}
 use Rattle.rules.proofs.interference.largest_of_weaker.Given as given
 
 abbrev pub Inv-loop-j : given.InvT-loop-j

@@ -1,5 +1,6 @@
 use mathlib.Core.Path.{_≡_}
-use Rattle.rules.specs.Sums.{sumTo, partAt}
+use Rattle.model.specs.Folds.{sumTo}
+use Rattle.rules.specs.Sums.{partAt}
 use Rattle.rules.proofs.interference.over_stronger.Given as given
 
 abbrev pub Inv-loop-j : given.InvT-loop-j
