@@ -44,38 +44,38 @@ module _ (belongs : Item → Bool) (load : ℕ → ℕ) (xs : List Item) where
   best-yes : (n : ℕ) (o : Option QueueBound) → isAt n ≡ true → Best n o → Best (suc n) (larger o (load n) n)
   best-yes n None e h =
       record {
-          bytes = omega (arith, largest-none n h, cond-true (isAt n) (load n) 0 e);
-          inside = omega arith;
-          there = e;
-          reached = refl;
-          first = λ j l t. absurd (both-ways (isAt j) (h j l) t)
+        bytes = omega (arith, largest-none n h, cond-true (isAt n) (load n) 0 e);
+        inside = omega arith;
+        there = e;
+        reached = refl;
+        first = λ j l t. absurd (both-ways (isAt j) (h j l) t);
       }
   best-yes n (Some b) e h =
       cond-both (ltb (b .bytes) (load n)) (Some (record { bytes = load n; item = n })) (Some b) (Best (suc n))
       (λ lt. record {
-          bytes = omega (arith, h .bytes, ltb-true (b .bytes) (load n) lt, cond-true (isAt n) (load n) 0 e);
-          inside = omega arith;
-          there = e;
-          reached = refl;
-          first = λ j l t. omega (arith, h .bytes, ltb-true (b .bytes) (load n) lt, below-largest n j l t)
+        bytes = omega (arith, h .bytes, ltb-true (b .bytes) (load n) lt, cond-true (isAt n) (load n) 0 e);
+        inside = omega arith;
+        there = e;
+        reached = refl;
+        first = λ j l t. omega (arith, h .bytes, ltb-true (b .bytes) (load n) lt, below-largest n j l t);
       })
       (λ ge. record {
-          bytes = omega (arith, h .bytes, ltb-false (b .bytes) (load n) ge, cond-true (isAt n) (load n) 0 e);
-          inside = omega (arith, h .inside);
-          there = h .there;
-          reached = h .reached;
-          first = h .first
+        bytes = omega (arith, h .bytes, ltb-false (b .bytes) (load n) ge, cond-true (isAt n) (load n) 0 e);
+        inside = omega (arith, h .inside);
+        there = h .there;
+        reached = h .reached;
+        first = h .first;
       })
 
   best-no : (n : ℕ) (o : Option QueueBound) → isAt n ≡ false → Best n o → Best (suc n) o
   best-no n None e h = λ i l. ⊎-elim (λ (s : i ≡ n). subst (λ k. isAt k ≡ false) (sym s) e) (λ ne. h i (omega arith)) (cases-eq i n)
   best-no n (Some b) e h =
       record {
-          bytes = omega (arith, h .bytes, cond-false (isAt n) (load n) 0 e);
-          inside = omega (arith, h .inside);
-          there = h .there;
-          reached = h .reached;
-          first = h .first
+        bytes = omega (arith, h .bytes, cond-false (isAt n) (load n) 0 e);
+        inside = omega (arith, h .inside);
+        there = h .there;
+        reached = h .reached;
+        first = h .first;
       }
 
   pub best : (n : ℕ) → Best n (boundTo belongs load xs n)

@@ -61,25 +61,25 @@ pub record Inv (wait : Reckoning) (xs : List Item) (arcs : List Arc) (ts : List 
 pub handed : (xs : List Item) (ts : List Times) → Sound xs → length ts ≡ length xs → ((i : ℕ) → i < length xs → endAt xs ts i ≤ getD xs i noItem .deadline) → Handed xs ts
 handed xs ts sound paired fits =
     record {
-        few = sound .few;
-        paired = paired;
-        valid = sound .valid;
-        late-small = λ i l. omega (arith, fits i l, sound .valid i l .deadline-high, sound .valid i l .period-high);
-        wait-small = λ i l. omega (arith, fits i l, sound .valid i l .deadline-high, sound .valid i l .period-high)
+      few = sound .few;
+      paired = paired;
+      valid = sound .valid;
+      late-small = λ i l. omega (arith, fits i l, sound .valid i l .deadline-high, sound .valid i l .period-high);
+      wait-small = λ i l. omega (arith, fits i l, sound .valid i l .deadline-high, sound .valid i l .period-high);
     }
 
 pub inv-start : (wait : Reckoning) (xs : List Item) (arcs : List Arc) → Sound xs → Inv wait xs arcs (replicate (length xs) noTimes)
 inv-start wait xs arcs sound =
     record {
-        sound = sound;
-        paired = length-replicate _ _;
-        late-up = λ i l. omega (arith, ap (λ t. t .late) (zero-at (length xs) i));
-        wait-up = λ i l. omega (arith, ap (λ t. t .wait) (zero-at (length xs) i));
-        fits = λ i l. omega (arith, ap (λ t. t .late) (zero-at (length xs) i), ap (λ t. t .wait) (zero-at (length xs) i), sound .valid i l .duration-high);
-        low = λ us h. record {
-            late = λ i. omega (arith, ap (λ t. t .late) (zero-at (length xs) i));
-            wait = λ i. omega (arith, ap (λ t. t .wait) (zero-at (length xs) i))
-        }
+      sound = sound;
+      paired = length-replicate _ _;
+      late-up = λ i l. omega (arith, ap (λ t. t .late) (zero-at (length xs) i));
+      wait-up = λ i l. omega (arith, ap (λ t. t .wait) (zero-at (length xs) i));
+      fits = λ i l. omega (arith, ap (λ t. t .late) (zero-at (length xs) i), ap (λ t. t .wait) (zero-at (length xs) i), sound .valid i l .duration-high);
+      low = λ us h. record {
+        late = λ i. omega (arith, ap (λ t. t .late) (zero-at (length xs) i));
+        wait = λ i. omega (arith, ap (λ t. t .wait) (zero-at (length xs) i));
+      };
     }
 
 module _ (wait : Reckoning) (mono : Monotone wait) (xs : List Item) (arcs : List Arc) (ts : List Times) (inv : Inv wait xs arcs ts) where
@@ -117,8 +117,8 @@ module _ (wait : Reckoning) (mono : Monotone wait) (xs : List Item) (arcs : List
   rises : (i : ℕ) → i < length xs → Below ts (set ts i (new wait xs arcs ts i))
   rises i l =
       record {
-          late = λ j. set-at ts i j (new wait xs arcs ts i) (λ k t. lateAt ts k ≤ t .late) (omega (arith, inv .paired)) (inv .late-up i l) (λ _. omega arith);
-          wait = λ j. set-at ts i j (new wait xs arcs ts i) (λ k t. waitAt ts k ≤ t .wait) (omega (arith, inv .paired)) (inv .wait-up i l) (λ _. omega arith)
+        late = λ j. set-at ts i j (new wait xs arcs ts i) (λ k t. lateAt ts k ≤ t .late) (omega (arith, inv .paired)) (inv .late-up i l) (λ _. omega arith);
+        wait = λ j. set-at ts i j (new wait xs arcs ts i) (λ k t. waitAt ts k ≤ t .wait) (omega (arith, inv .paired)) (inv .wait-up i l) (λ _. omega arith);
       }
 
   pub inv-step : (i : ℕ) → i < length xs → endOf (getD xs i noItem) (new wait xs arcs ts i) ≤ getD xs i noItem .deadline → Inv wait xs arcs (set ts i (new wait xs arcs ts i))
@@ -128,23 +128,23 @@ module _ (wait : Reckoning) (mono : Monotone wait) (xs : List Item) (arcs : List
       let il : i < length ts = omega (arith, inv .paired) in
       let paired : length ts′ ≡ length xs = length-set ts i t ∙ inv .paired in
       let fits : ((j : ℕ) → j < length xs → endAt xs ts′ j ≤ getD xs j noItem .deadline) =
-        λ j lj. set-at ts i j t (λ k u. endOf (getD xs k noItem) u ≤ getD xs k noItem .deadline) il fit (λ _. inv .fits j lj) in
+      λ j lj. set-at ts i j t (λ k u. endOf (getD xs k noItem) u ≤ getD xs k noItem .deadline) il fit (λ _. inv .fits j lj) in
       let there : Handed xs ts′ = handed xs ts′ (inv .sound) paired fits in
       let up : Below ts ts′ = rises i l in
       record {
-          sound = inv .sound;
-          paired = paired;
-          late-up = λ j lj.
-              let m : late-new xs arcs ts j ≤ late-new xs arcs ts′ j = latest-mono xs ts ts′ j arcs (getD xs j noItem .offset) up in
-              set-at ts i j t (λ k u. late-new xs arcs ts k ≤ late-new xs arcs ts′ k → u .late ≤ late-new xs arcs ts′ k) il (λ h. h) (λ _ h. omega (arith, inv .late-up j lj)) m;
-          wait-up = λ j lj.
-              let m : wait xs ts j ≤ wait xs ts′ j = mono xs ts ts′ j here there up lj in
-              set-at ts i j t (λ k u. wait xs ts k ≤ wait xs ts′ k → u .wait ≤ wait xs ts′ k) il (λ h. h) (λ _ h. omega (arith, inv .wait-up j lj)) m;
-          fits = fits;
-          low = λ us h. record {
-              late = λ j. set-at ts i j t (λ k u. u .late ≤ lateAt us k) il (over-late us h i l) (λ _. inv .low us h .late j);
-              wait = λ j. set-at ts i j t (λ k u. u .wait ≤ waitAt us k) il (over-wait us h i l) (λ _. inv .low us h .wait j)
-          }
+        sound = inv .sound;
+        paired = paired;
+        late-up = λ j lj.
+            let m : late-new xs arcs ts j ≤ late-new xs arcs ts′ j = latest-mono xs ts ts′ j arcs (getD xs j noItem .offset) up in
+            set-at ts i j t (λ k u. late-new xs arcs ts k ≤ late-new xs arcs ts′ k → u .late ≤ late-new xs arcs ts′ k) il (λ h. h) (λ _ h. omega (arith, inv .late-up j lj)) m;
+        wait-up = λ j lj.
+            let m : wait xs ts j ≤ wait xs ts′ j = mono xs ts ts′ j here there up lj in
+            set-at ts i j t (λ k u. wait xs ts k ≤ wait xs ts′ k → u .wait ≤ wait xs ts′ k) il (λ h. h) (λ _ h. omega (arith, inv .wait-up j lj)) m;
+        fits = fits;
+        low = λ us h. record {
+          late = λ j. set-at ts i j t (λ k u. u .late ≤ lateAt us k) il (over-late us h i l) (λ _. inv .low us h .late j);
+          wait = λ j. set-at ts i j t (λ k u. u .wait ≤ waitAt us k) il (over-wait us h i l) (λ _. inv .low us h .wait j);
+        };
       }
 
   -- an item on which a step is quiet has lawful times, and the other way round
@@ -152,11 +152,11 @@ module _ (wait : Reckoning) (mono : Monotone wait) (xs : List Item) (arcs : List
   quiet-lawful i l t =
       let a : late-new xs arcs ts i ≤ lateAt ts i = t .2 in
       record {
-          released = omega (arith, latest-start xs ts i arcs (getD xs i noItem .offset));
-          supplied = λ k lk e. omega (arith, latest-end xs ts i arcs (getD xs i noItem .offset) k lk e);
-          waited = t .3;
-          in-time = inv .fits i l;
-          exact = λ m. omega (arith, t .1 m, inv .late-up i l)
+        released = omega (arith, latest-start xs ts i arcs (getD xs i noItem .offset));
+        supplied = λ k lk e. omega (arith, latest-end xs ts i arcs (getD xs i noItem .offset) k lk e);
+        waited = t .3;
+        in-time = inv .fits i l;
+        exact = λ m. omega (arith, t .1 m, inv .late-up i l);
       }
 
   pub lawful-quiet : (i : ℕ) → i < length xs → LawfulAt wait xs arcs ts i → judge (getD xs i noItem) (getD ts i noTimes) (new wait xs arcs ts i) ≡ Quiet

@@ -29,13 +29,13 @@ told x old new =
     (Told x old new)
     (λ e. let p = and-parts _ _ e in (eqb-true _ _ (p .0), ltb-true _ _ (p .1)))
     (λ e. cond-both (ltb (x .deadline) (endOf x new)) (Broke Limit)
-      (cond (ltb (old .late) (new .late) || ltb (old .wait) (new .wait)) Raised Quiet)
-      (Told x old new)
-      (λ f. ltb-true _ _ f)
-      (λ f. cond-both (ltb (old .late) (new .late) || ltb (old .wait) (new .wait)) Raised Quiet (Told x old new)
-        (λ g. (ltb-false _ _ f, ⊎-elim (λ h. inl (ltb-true _ _ h)) (λ h. inr (ltb-true _ _ h)) (or-cases _ _ g)))
-        (λ g. let p = or-parts _ _ g in
-          (ltb-false _ _ f, (λ m. ⊎-elim (λ h. absurd (eqb-false _ _ h m)) (λ h. ltb-false _ _ h) (and-cases _ _ e)), ltb-false _ _ (p .0), ltb-false _ _ (p .1)))))
+    (cond (ltb (old .late) (new .late) || ltb (old .wait) (new .wait)) Raised Quiet)
+    (Told x old new)
+    (λ f. ltb-true _ _ f)
+    (λ f. cond-both (ltb (old .late) (new .late) || ltb (old .wait) (new .wait)) Raised Quiet (Told x old new)
+    (λ g. (ltb-false _ _ f, ⊎-elim (λ h. inl (ltb-true _ _ h)) (λ h. inr (ltb-true _ _ h)) (or-cases _ _ g)))
+    (λ g. let p = or-parts _ _ g in
+    (ltb-false _ _ f, (λ m. ⊎-elim (λ h. absurd (eqb-false _ _ h m)) (λ h. ltb-false _ _ h) (and-cases _ _ e)), ltb-false _ _ (p .0), ltb-false _ _ (p .1)))))
 
 pub quiet-if : (x : Item) (old new : Times) → endOf x new ≤ x .deadline → (x .mark ≡ 1 → new .late ≤ x .offset) → new .late ≤ old .late → new .wait ≤ old .wait → judge x old new ≡ Quiet
 quiet-if x old new fit exact l w =

@@ -44,11 +44,11 @@ module _ (m : Meaning) (mono : Monotone (m .wait)) (loads : Monotone (m .load)) 
   settled-lawful : IsSettled m s → LawfulFor m s (s .times)
   settled-lawful h =
       record {
-          paired = w .inv .paired;
-          each = λ i l.
-              let quiet : outcome (m .wait) s i ≡ Quiet = quiet-is (outcome (m .wait) s i) (none-tells (λ k. not (isQuiet (outcome (m .wait) s k))) (length (s .items)) (h .1) i l) in
-              quiet-lawful (m .wait) mono (s .items) (s .arcs) (s .times) (w .inv) i l
-              (subst (Told (itemAt s i) (timesAt s i) (found (m .wait) s i)) quiet (told (itemAt s i) (timesAt s i) (found (m .wait) s i)))
+        paired = w .inv .paired;
+        each = λ i l.
+            let quiet : outcome (m .wait) s i ≡ Quiet = quiet-is (outcome (m .wait) s i) (none-tells (λ k. not (isQuiet (outcome (m .wait) s k))) (length (s .items)) (h .1) i l) in
+            quiet-lawful (m .wait) mono (s .items) (s .arcs) (s .times) (w .inv) i l
+            (subst (Told (itemAt s i) (timesAt s i) (found (m .wait) s i)) quiet (told (itemAt s i) (timesAt s i) (found (m .wait) s i)));
       }
 
   settled-is : settledAsk m s ≡ Ok tt → IsSettled m s
@@ -58,16 +58,17 @@ module _ (m : Meaning) (mono : Monotone (m .wait)) (loads : Monotone (m .load)) 
       (not-true (s .broken) (unbroken .0), quiet .0)
 
   lawful-settled : LawfulFor m s (s .times) → IsSettled m s
-  lawful-settled h =
-      ( ⊎-elim (λ e. absurd (w .none e (s .times) h)) (λ e. e) (cases-bool (s .broken))
-      , none-from (λ k. not (isQuiet (outcome (m .wait) s k))) (length (s .items))
-        (λ i l. ap (λ b. not (isQuiet b)) (lawful-quiet (m .wait) mono (s .items) (s .arcs) (s .times) (w .inv) i l (h .each i l))) )
+  lawful-settled h = (
+    ⊎-elim (λ e. absurd (w .none e (s .times) h)) (λ e. e) (cases-bool (s .broken)),
+    none-from (λ k. not (isQuiet (outcome (m .wait) s k))) (length (s .items))
+        (λ i l. ap (λ b. not (isQuiet b)) (lawful-quiet (m .wait) mono (s .items) (s .arcs) (s .times) (w .inv) i l (h .each i l))),
+  )
 
   bounds-low : (ts : List Times) → LawfulFor m s ts → (class station queue : ℕ) → boundOf m s (s .times) class station queue ≤ boundOf m s ts class station queue
   bounds-low ts h class station queue =
       largestTo-rises (loadThere m s (s .times) class station queue) (loadThere m s ts class station queue) (length (s .items))
       (λ i l. cond-rises (isThere class station queue (getD (s .items) i noItem))
-        (loads (s .items) (s .times) ts i (here (m .wait) mono (s .items) (s .arcs) (s .times) (w .inv)) (lawful-handed (m .wait) mono (s .items) (s .arcs) (s .times) (w .inv) ts h) (w .inv .low ts h) l))
+      (loads (s .items) (s .times) ts i (here (m .wait) mono (s .items) (s .arcs) (s .times) (w .inv)) (lawful-handed (m .wait) mono (s .items) (s .arcs) (s .times) (w .inv) ts h) (w .inv .low ts h) l))
 
   tells : (a : ℕ) (x : State) (e : Ending) → Ends (m .wait) (s .items) (s .arcs) (a + 0 < bound (s .items) (s .times)) (x .times) e → Tells m s a x e
   tells a x Settled h = h
@@ -96,12 +97,12 @@ module _ (m : Meaning) (mono : Monotone (m .wait)) (loads : Monotone (m .load)) 
   bound-kept class station queue None h = h
   bound-kept class station queue (Some b) h =
       record {
-          bytes = h .bytes;
-          least = λ ts l. omega (arith, h .bytes, bounds-low ts l class station queue);
-          inside = h .inside;
-          there = h .there;
-          reached = h .reached;
-          first = h .first
+        bytes = h .bytes;
+        least = λ ts l. omega (arith, h .bytes, bounds-low ts l class station queue);
+        inside = h .inside;
+        there = h .there;
+        reached = h .reached;
+        first = h .first;
       }
 
   answer-kept : (c : Call) → AnswerKept m s c
@@ -130,48 +131,49 @@ module _ (m : Meaning) (mono : Monotone (m .wait)) (loads : Monotone (m .load)) 
   whole-kept : Kept m s
   whole-kept =
       record {
-          late-low = λ ts h. w .inv .low ts h .late;
-          wait-low = λ ts h. w .inv .low ts h .wait;
-          end-low = λ ts h. end-mono (s .items) (s .times) ts (w .inv .low ts h);
-          lawful = settled-lawful;
-          settled = lawful-settled;
-          least-bounds = λ _. bounds-low;
-          hopeless = w .none;
-          answers = answer-kept
+        late-low = λ ts h. w .inv .low ts h .late;
+        wait-low = λ ts h. w .inv .low ts h .wait;
+        end-low = λ ts h. end-mono (s .items) (s .times) ts (w .inv .low ts h);
+        lawful = settled-lawful;
+        settled = lawful-settled;
+        least-bounds = λ _. bounds-low;
+        hopeless = w .none;
+        answers = answer-kept;
       }
 
 agree : (m : Meaning) → Monotone (m .wait) → Monotone (m .load) → (s t : State) → Whole (m .wait) s → Whole (m .wait) t → Agree m s t
 agree m mono loads s t ws wt xs arcs settled =
     let mine : LawfulFor m s (s .times) = settled-lawful m mono loads s ws settled in
     let theirs : ((us : List Times) → LawfulFor m s us → LawfulFor m t us) =
-      λ us h. subst (λ (ys : List Item). Lawful (m .wait) ys (t .arcs) us) xs (subst (λ (bs : List Arc). Lawful (m .wait) (s .items) bs us) arcs h) in
+    λ us h. subst (λ (ys : List Item). Lawful (m .wait) ys (t .arcs) us) xs (subst (λ (bs : List Arc). Lawful (m .wait) (s .items) bs us) arcs h) in
     let back : ((us : List Times) → LawfulFor m t us → LawfulFor m s us) =
-      λ us h. subst (λ (ys : List Item). Lawful (m .wait) ys (s .arcs) us) (sym xs) (subst (λ (bs : List Arc). Lawful (m .wait) (t .items) bs us) (sym arcs) h) in
-    ( ⊎-elim (λ e. absurd (wt .none e (s .times) (theirs (s .times) mine))) (λ e. e) (cases-bool (t .broken))
-    , λ also.
-        let other : LawfulFor m s (t .times) = back (t .times) (settled-lawful m mono loads t wt also) in
-        let up : Below (s .times) (t .times) = ws .inv .low (t .times) other in
-        let down : Below (t .times) (s .times) = wt .inv .low (s .times) (theirs (s .times) mine) in
-        ext-getD noTimes (s .times) (t .times) (mine .paired ∙ sym (other .paired))
-        (λ i l.
+    λ us h. subst (λ (ys : List Item). Lawful (m .wait) ys (s .arcs) us) (sym xs) (subst (λ (bs : List Arc). Lawful (m .wait) (t .items) bs us) (sym arcs) h) in (
+      ⊎-elim (λ e. absurd (wt .none e (s .times) (theirs (s .times) mine))) (λ e. e) (cases-bool (t .broken)),
+      λ also.
+          let other : LawfulFor m s (t .times) = back (t .times) (settled-lawful m mono loads t wt also) in
+          let up : Below (s .times) (t .times) = ws .inv .low (t .times) other in
+          let down : Below (t .times) (s .times) = wt .inv .low (s .times) (theirs (s .times) mine) in
+          ext-getD noTimes (s .times) (t .times) (mine .paired ∙ sym (other .paired))
+          (λ i l.
           let a : lateAt (s .times) i ≡ lateAt (t .times) i = omega (arith, up .late i, down .late i) in
           let b : waitAt (s .times) i ≡ waitAt (t .times) i = omega (arith, up .wait i, down .wait i) in
-          times-same _ _ (getD (t .times) i noTimes) a b) )
+          times-same _ _ (getD (t .times) i noTimes) a b),
+    )
 
 pub promised : (m : Meaning) → Law (m .wait) (m .load) → Promised m
 promised m law =
     let w : ((calls : List Call) → AllMade calls → Whole (m .wait) (afterAll m empty calls)) = all-whole m (law .wait-monotone) empty (empty-whole (m .wait)) in
     record {
-        kept = λ calls made. whole-kept m (law .wait-monotone) (law .load-monotone) _ (w calls made);
-        agree = λ calls others made also. agree m (law .wait-monotone) (law .load-monotone) _ _ (w calls made) (w others also)
+      kept = λ calls made. whole-kept m (law .wait-monotone) (law .load-monotone) _ (w calls made);
+      agree = λ calls others made also. agree m (law .wait-monotone) (law .load-monotone) _ _ (w calls made) (w others also);
     }
 
 pub leaves : (m : Meaning) → Law (m .wait) (m .load) → (s : State) (c : Call) (left : State) → Made c → left ≡ after m s c → Leaves m s c left
 leaves m law s c left made e =
     record {
-        state = e;
-        kept = λ calls all is.
-            let w : Whole (m .wait) s = subst (Whole (m .wait)) (sym is) (all-whole m (law .wait-monotone) empty (empty-whole (m .wait)) calls all) in
-            let next : Kept m (after m s c) = whole-kept m (law .wait-monotone) (law .load-monotone) (after m s c) (after-whole m (law .wait-monotone) s w c made) in
-            (whole-kept m (law .wait-monotone) (law .load-monotone) s w .answers c, subst (Kept m) (sym e) next)
+      state = e;
+      kept = λ calls all is.
+          let w : Whole (m .wait) s = subst (Whole (m .wait)) (sym is) (all-whole m (law .wait-monotone) empty (empty-whole (m .wait)) calls all) in
+          let next : Kept m (after m s c) = whole-kept m (law .wait-monotone) (law .load-monotone) (after m s c) (after-whole m (law .wait-monotone) s w c made) in
+          (whole-kept m (law .wait-monotone) (law .load-monotone) s w .answers c, subst (Kept m) (sym e) next);
     }

@@ -45,4 +45,4 @@ pub latest-mono : (xs : List Item) (ts us : List Times) (i : ℕ) (arcs : List A
 latest-mono xs ts us i arcs m below =
     latest-least xs ts i arcs m (latest xs us i arcs m) (latest-start xs us i arcs m)
     (λ k l e. let f : endAt xs us (getD arcs k noArc .from) ≤ latest xs us i arcs m = latest-end xs us i arcs m k l e in
-      let g : endAt xs ts (getD arcs k noArc .from) ≤ endAt xs us (getD arcs k noArc .from) = end-mono xs ts us below (getD arcs k noArc .from) in omega arith)
+    let g : endAt xs ts (getD arcs k noArc .from) ≤ endAt xs us (getD arcs k noArc .from) = end-mono xs ts us below (getD arcs k noArc .from) in omega arith)

@@ -75,21 +75,21 @@ module _ (wait : Reckoning) (xs : List Item) (arcs : List Arc) where
   weaken : (m n a b c d : ℕ) (x : Ran) → m ≤ n → (a < b → c < d) → RanWell wait xs arcs m a b x → RanWell wait xs arcs n c d x
   weaken m n a b c d x le f h =
       record {
-          items = h .items;
-          arcs-same = h .arcs-same;
-          inv = h .inv;
-          none = h .none;
-          raises = h .raises;
-          steps = omega (arith, h .steps);
-          ends = ends-map wait xs arcs (a < b) (c < d) (x .state .times) (x .result .ending) f (h .ends)
+        items = h .items;
+        arcs-same = h .arcs-same;
+        inv = h .inv;
+        none = h .none;
+        raises = h .raises;
+        steps = omega (arith, h .steps);
+        ends = ends-map wait xs arcs (a < b) (c < d) (x .state .times) (x .result .ending) f (h .ends);
       }
 
   all-lawful : (ts : List Times) (i q : ℕ) → Inv wait xs arcs ts → Covered wait xs arcs ts i q → (0 < length xs → i < length xs) → length xs ≤ q → Lawful wait xs arcs ts
   all-lawful ts i q inv cov small enough =
       record {
-          paired = inv .paired;
-          each = λ j l. let il : i < length xs = small (omega arith) in
-              ⊎-elim (λ (h : j < i). cov .before j h (omega arith)) (λ (h : i ≤ j). cov .behind j h l (omega arith)) (cases-lt j i)
+        paired = inv .paired;
+        each = λ j l. let il : i < length xs = small (omega arith) in
+            ⊎-elim (λ (h : j < i). cov .before j h (omega arith)) (λ (h : i ≤ j). cov .behind j h l (omega arith)) (cases-lt j i);
       }
 
   pub covered-none : (ts : List Times) (i : ℕ) → Covered wait xs arcs ts i 0
@@ -100,13 +100,13 @@ module _ (wait : Reckoning) (xs : List Item) (arcs : List Arc) where
       let at : ((j : ℕ) → j ≡ i → LawfulAt wait xs arcs ts j) = λ j e. subst (λ k. LawfulAt wait xs arcs ts k) (sym e) here in
       cond-both (ltb (i + 1) (length xs)) (i + 1) 0 (λ k. Covered wait xs arcs ts k (q + 1))
       (λ e. record {
-          before = λ j l h. ⊎-elim (λ (g : j < i). cov .before j g (omega arith)) (λ (g : i ≤ j). at j (omega arith)) (cases-lt j i);
-          behind = λ j l lj h. cov .behind j (omega arith) lj (omega arith)
+        before = λ j l h. ⊎-elim (λ (g : j < i). cov .before j g (omega arith)) (λ (g : i ≤ j). at j (omega arith)) (cases-lt j i);
+        behind = λ j l lj h. cov .behind j (omega arith) lj (omega arith);
       })
       (λ e. let m : length xs ≤ i + 1 = ltb-false _ _ e in
-        record {
-          before = λ j l h. absurd (omega arith);
-          behind = λ j l lj h. ⊎-elim (λ (g : j < i). cov .before j g (omega arith)) (λ (g : i ≤ j). at j (omega arith)) (cases-lt j i)
+      record {
+        before = λ j l h. absurd (omega arith);
+        behind = λ j l lj h. ⊎-elim (λ (g : j < i). cov .before j g (omega arith)) (λ (g : i ≤ j). at j (omega arith)) (cases-lt j i);
       })
 
   next-small : (i : ℕ) → i < length xs → cond (ltb (i + 1) (length xs)) (i + 1) 0 < length xs
@@ -149,22 +149,22 @@ module _ (wait : Reckoning) (mono : Monotone wait) (xs : List Item) (arcs : List
       cond-both (leb (length xs) q) _ _ P
       (λ e. stopped wait xs arcs ts (t + suc f) (suc f + q) (bound xs ts) Settled t r inv (omega arith) (omega arith) (all-lawful wait xs arcs ts i q inv cov small (leb-true _ _ e)))
       (λ e.
-        let short : q < length xs = leb-false _ _ e in
-        let il : i < length xs = small (omega arith) in
-        by-cases (outcome wait s i) _ _ _ P
-        (λ o. let h : Q Raised = subst Q o tell in
-          let inv′ : Inv wait xs arcs ts′ = inv-step wait mono xs arcs ts inv i il (h .0) in
-          let up : sumBy sum ts < sumBy sum ts′ = raised-more ts i inv il h in
-          let w′ : sumBy sum ts′ ≤ sumBy slack xs = sum-le xs ts′ (inv′ .paired) (inv′ .fits) in
-          let fl = falls (sumBy slack xs - sumBy sum ts) (sumBy slack xs - sumBy sum ts′) (length xs) (omega arith) in
-          weaken wait xs arcs (t + 1 + f) (t + suc f) (f + 0) (bound xs ts′) (suc f + q) (bound xs ts) _ (omega arith) (λ g. omega arith)
-          (run-well f ts′ (next s i) 0 (t + 1) (r + 1) inv′ (covered-none wait xs arcs ts′ (next s i)) (λ _. next-small wait xs arcs i il) (omega arith)))
-        (λ o. let h : Q Quiet = subst Q o tell in
-          let same : ts′ ≡ ts = ap (set ts i) (quiet-same wait mono xs arcs ts inv i il h) ∙ set-getD ts i noTimes in
-          let here : LawfulAt wait xs arcs ts i = quiet-lawful wait mono xs arcs ts inv i il h in
-          subst (λ (u : List Times). P (run-from wait f (opened xs arcs u) (next s i) (q + 1) (t + 1) r)) (sym same)
-          (weaken wait xs arcs (t + 1 + f) (t + suc f) (f + (q + 1)) (bound xs ts) (suc f + q) (bound xs ts) _ (omega arith) (λ g. omega arith)
-            (run-well f ts (next s i) (q + 1) (t + 1) r inv (covered-more wait xs arcs ts i q il here cov) (λ _. next-small wait xs arcs i il) few)))
-        (λ c o. let h : Q (Broke c) = subst Q o tell in
-          let none : ((us : List Times) → Lawful wait xs arcs us → ⊥) = no-hope wait mono xs arcs ts inv c i il h in
-          record { items = refl; arcs-same = refl; inv = inv; none = λ _. none; raises = omega arith; steps = omega arith; ends = none }))
+      let short : q < length xs = leb-false _ _ e in
+      let il : i < length xs = small (omega arith) in
+      by-cases (outcome wait s i) _ _ _ P
+      (λ o. let h : Q Raised = subst Q o tell in
+      let inv′ : Inv wait xs arcs ts′ = inv-step wait mono xs arcs ts inv i il (h .0) in
+      let up : sumBy sum ts < sumBy sum ts′ = raised-more ts i inv il h in
+      let w′ : sumBy sum ts′ ≤ sumBy slack xs = sum-le xs ts′ (inv′ .paired) (inv′ .fits) in
+      let fl = falls (sumBy slack xs - sumBy sum ts) (sumBy slack xs - sumBy sum ts′) (length xs) (omega arith) in
+      weaken wait xs arcs (t + 1 + f) (t + suc f) (f + 0) (bound xs ts′) (suc f + q) (bound xs ts) _ (omega arith) (λ g. omega arith)
+      (run-well f ts′ (next s i) 0 (t + 1) (r + 1) inv′ (covered-none wait xs arcs ts′ (next s i)) (λ _. next-small wait xs arcs i il) (omega arith)))
+      (λ o. let h : Q Quiet = subst Q o tell in
+      let same : ts′ ≡ ts = ap (set ts i) (quiet-same wait mono xs arcs ts inv i il h) ∙ set-getD ts i noTimes in
+      let here : LawfulAt wait xs arcs ts i = quiet-lawful wait mono xs arcs ts inv i il h in
+      subst (λ (u : List Times). P (run-from wait f (opened xs arcs u) (next s i) (q + 1) (t + 1) r)) (sym same)
+      (weaken wait xs arcs (t + 1 + f) (t + suc f) (f + (q + 1)) (bound xs ts) (suc f + q) (bound xs ts) _ (omega arith) (λ g. omega arith)
+      (run-well f ts (next s i) (q + 1) (t + 1) r inv (covered-more wait xs arcs ts i q il here cov) (λ _. next-small wait xs arcs i il) few)))
+      (λ c o. let h : Q (Broke c) = subst Q o tell in
+      let none : ((us : List Times) → Lawful wait xs arcs us → ⊥) = no-hope wait mono xs arcs ts inv c i il h in
+      record { items = refl; arcs-same = refl; inv = inv; none = λ _. none; raises = omega arith; steps = omega arith; ends = none }))

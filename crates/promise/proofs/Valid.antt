@@ -14,15 +14,15 @@ valid-of x low high limits start bytes =
     let s = and-parts _ _ start in
     let h = and-parts _ _ (s .0) in
     record {
-        period-low = low;
-        period-high = high;
-        duration-low = leb-true _ _ (d .0);
-        duration-high = leb-true _ _ (d .1);
-        deadline-high = leb-true _ _ (l .1);
-        mark-bit = leb-true _ _ (h .0);
-        held-within = leb-true _ _ (h .1);
-        offset-within = ltb-true _ _ (s .1);
-        bytes = bytes
+      period-low = low;
+      period-high = high;
+      duration-low = leb-true _ _ (d .0);
+      duration-high = leb-true _ _ (d .1);
+      deadline-high = leb-true _ _ (l .1);
+      mark-bit = leb-true _ _ (h .0);
+      held-within = leb-true _ _ (h .1);
+      offset-within = ltb-true _ _ (s .1);
+      bytes = bytes;
     }
 
 pub valid-from : (x : Item) → hasPeriod x ≡ true → hasLimits x ≡ true → hasStart x ≡ true → Bytes x → Valid x

@@ -74,19 +74,19 @@ quiet-is (Broke c) h = absurd (both-ways true h refl)
 pub sound-push : (xs : List Item) (x : Item) → Sound xs → length xs < 64 → Valid x → Sound (xs ++ (x ∷ []))
 sound-push xs x s l v =
     record {
-        few = omega (arith, length-push xs x);
-        valid = λ i il. let n = length-push xs x in
-            ⊎-elim (λ (h : i < length xs). subst Valid (sym (getD-append-left xs (x ∷ []) noItem i h)) (s .valid i h))
-            (λ (h : length xs ≤ i). subst Valid (sym (getD-push xs x noItem i (omega arith))) v) (cases-lt i (length xs))
+      few = omega (arith, length-push xs x);
+      valid = λ i il. let n = length-push xs x in
+          ⊎-elim (λ (h : i < length xs). subst Valid (sym (getD-append-left xs (x ∷ []) noItem i h)) (s .valid i h))
+          (λ (h : length xs ≤ i). subst Valid (sym (getD-push xs x noItem i (omega arith))) v) (cases-lt i (length xs));
     }
 
 pub sound-set : (xs : List Item) (x : Item) (j : ℕ) → Sound xs → j < length xs → Valid x → Sound (set xs j x)
 sound-set xs x j s l v =
     record {
-        few = omega (arith, length-set xs j x, s .few);
-        valid = λ i il. let h : i < length xs = omega (arith, length-set xs j x) in
-            ⊎-elim (λ (e : i ≡ j). subst Valid (sym (ap (λ k. getD (set xs j x) k noItem) e ∙ getD-set-same xs j x noItem l)) v)
-            (λ (ne : i ≡ j → ⊥). subst Valid (sym (getD-set-other xs j i x noItem ne)) (s .valid i h)) (cases-eq i j)
+      few = omega (arith, length-set xs j x, s .few);
+      valid = λ i il. let h : i < length xs = omega (arith, length-set xs j x) in
+          ⊎-elim (λ (e : i ≡ j). subst Valid (sym (ap (λ k. getD (set xs j x) k noItem) e ∙ getD-set-same xs j x noItem l)) v)
+          (λ (ne : i ≡ j → ⊥). subst Valid (sym (getD-set-other xs j i x noItem ne)) (s .valid i h)) (cases-eq i j);
     }
 
 whole-fresh : (wait : Reckoning) (xs : List Item) (arcs : List Arc) → Sound xs → Whole wait (fresh xs arcs)
@@ -123,29 +123,29 @@ module _ (wait : Reckoning) (mono : Monotone wait) (s : State) (w : Whole wait s
       let x : Ran = run-of wait s a in
       let h : RanWell wait (s .items) (s .arcs) (0 + a) (a + 0) (bound (s .items) (s .times)) x = run-is-well unb a in
       record {
-          inv = subst (λ (xs : List Item). Inv wait xs (x .state .arcs) (x .state .times)) (sym (h .items)) (subst (λ (ar : List Arc). Inv wait (s .items) ar (x .state .times)) (sym (h .arcs-same)) (h .inv));
-          none = λ b. subst (λ (xs : List Item). (us : List Times) → Lawful wait xs (x .state .arcs) us → ⊥) (sym (h .items)) (subst (λ (ar : List Arc). (us : List Times) → Lawful wait (s .items) ar us → ⊥) (sym (h .arcs-same)) (h .none b))
+        inv = subst (λ (xs : List Item). Inv wait xs (x .state .arcs) (x .state .times)) (sym (h .items)) (subst (λ (ar : List Arc). Inv wait (s .items) ar (x .state .times)) (sym (h .arcs-same)) (h .inv));
+        none = λ b. subst (λ (xs : List Item). (us : List Times) → Lawful wait xs (x .state .arcs) us → ⊥) (sym (h .items)) (subst (λ (ar : List Arc). (us : List Times) → Lawful wait (s .items) ar us → ⊥) (sym (h .arcs-same)) (h .none b));
       }
 
 pub after-whole : (m : Meaning) → Monotone (m .wait) → (s : State) → Whole (m .wait) s → (c : Call) → Made c → Whole (m .wait) (after m s c)
 after-whole m mono s w (entry x) made =
     left-cases (entryAsk m s x) _ s (Whole (m .wait)) w (λ e.
-      let few = ask-ok _ _ _ e in
-      let period = ask-ok _ _ _ (few .1) in
-      let limits = ask-ok _ _ _ (period .1) in
-      let start = ask-ok _ _ _ (limits .1) in
-      whole-fresh (m .wait) _ _ (sound-push _ _ (w .inv .sound) (ltb-true _ _ (few .0)) (valid-from x (period .0) (limits .0) (start .0) made)))
+    let few = ask-ok _ _ _ e in
+    let period = ask-ok _ _ _ (few .1) in
+    let limits = ask-ok _ _ _ (period .1) in
+    let start = ask-ok _ _ _ (limits .1) in
+    whole-fresh (m .wait) _ _ (sound-push _ _ (w .inv .sound) (ltb-true _ _ (few .0)) (valid-from x (period .0) (limits .0) (start .0) made)))
 after-whole m mono s w (arc p i) made =
     left-cases (arcAsk s p i) _ s (Whole (m .wait)) w (λ _. whole-fresh (m .wait) _ _ (w .inv .sound))
 after-whole m mono s w (change i x) made =
     left-cases (changeAsk m s i x) _ s (Whole (m .wait)) w (λ e.
-      let exists = ask-ok _ _ _ e in
-      let keeps = ask-ok _ _ _ (exists .1) in
-      let limits = ask-ok _ _ _ (keeps .1) in
-      let start = ask-ok _ _ _ (limits .1) in
-      let il : i < length (s .items) = ltb-true _ _ (exists .0) in
-      let same : itemAt s i .period ≡ x .period = eqb-true _ _ (and-parts _ _ (keeps .0) .1) in
-      whole-fresh (m .wait) _ _ (sound-set _ _ i (w .inv .sound) il (valid-changed (itemAt s i) x (w .inv .sound .valid i il) same (limits .0) (start .0) made)))
+    let exists = ask-ok _ _ _ e in
+    let keeps = ask-ok _ _ _ (exists .1) in
+    let limits = ask-ok _ _ _ (keeps .1) in
+    let start = ask-ok _ _ _ (limits .1) in
+    let il : i < length (s .items) = ltb-true _ _ (exists .0) in
+    let same : itemAt s i .period ≡ x .period = eqb-true _ _ (and-parts _ _ (keeps .0) .1) in
+    whole-fresh (m .wait) _ _ (sound-set _ _ i (w .inv .sound) il (valid-changed (itemAt s i) x (w .inv .sound .valid i il) same (limits .0) (start .0) made)))
 after-whole m mono s w (step i) made =
     left-cases (stepAsk s i) _ s (Whole (m .wait)) w (λ e. whole-step (m .wait) mono s w i (ltb-true _ _ (ask-ok _ _ _ e .0)))
 after-whole m mono s w (run a) made =

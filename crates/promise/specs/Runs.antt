@@ -29,9 +29,9 @@ run-from wait zero s i quiet steps raises = ran s (cond (leb (length (s .items))
 run-from wait (suc left) s i quiet steps raises =
     cond (leb (length (s .items)) quiet) (ran s Settled steps raises)
     (by (outcome wait s i)
-        (run-from wait left (written s i (found wait s i)) (next s i) 0 (steps + 1) (raises + 1))
-        (run-from wait left (written s i (found wait s i)) (next s i) (quiet + 1) (steps + 1) raises)
-        (λ c. ran (brokenOff s) (Broken i c) (steps + 1) raises))
+    (run-from wait left (written s i (found wait s i)) (next s i) 0 (steps + 1) (raises + 1))
+    (run-from wait left (written s i (found wait s i)) (next s i) (quiet + 1) (steps + 1) raises)
+    (λ c. ran (brokenOff s) (Broken i c) (steps + 1) raises))
 
 abbrev pub run-of : Reckoning → State → ℕ → Ran
 run-of wait s allowance = run-from wait allowance s 0 0 0 0

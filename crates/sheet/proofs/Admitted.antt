@@ -35,7 +35,7 @@ pub record Reset (t : Table) : Type 0 where
 fresh-is : (t : Table) (xs : List Item) (arcs : List Arc) → Reset t → take (t .count) (t .items) ≡ xs → take (t .«arc_count») (t .arcs) ≡ arcs → length xs ≡ t .count → stateOf t ≡ fresh xs arcs
 fresh-is t xs arcs r items joins n =
     let zeros : take (t .count) (t .times) ≡ replicate (length xs) noTimes =
-      ap (take (t .count)) (r .zero) ∙ (take-replicate (t .count) 64 noTimes (t .few) ∙ ap (λ k. replicate k noTimes) (sym n)) in
+    ap (take (t .count)) (r .zero) ∙ (take-replicate (t .count) 64 noTimes (t .few) ∙ ap (λ k. replicate k noTimes) (sym n)) in
     let b = r .whole in
     cc
 
@@ -43,11 +43,11 @@ fresh-fit : (t : Table) (xs : List Item) (arcs : List Arc) → Reset t → state
 fresh-fit t xs arcs r e sound linked =
     let inv = inv-start (λ _ _ _. 0) xs [] sound in
     record {
-        items-full = r .items-full;
-        arcs-full = r .arcs-full;
-        times-full = ap length (r .zero) ∙ length-replicate 64 noTimes;
-        handed = subst (λ (u : State). Handed (u .items) (u .times)) (sym e) (handed xs _ sound (inv .paired) (inv .fits));
-        linked = subst (λ (u : State). Linked (u .items) (u .arcs)) (sym e) linked
+      items-full = r .items-full;
+      arcs-full = r .arcs-full;
+      times-full = ap length (r .zero) ∙ length-replicate 64 noTimes;
+      handed = subst (λ (u : State). Handed (u .items) (u .times)) (sym e) (handed xs _ sound (inv .paired) (inv .fits));
+      linked = subst (λ (u : State). Linked (u .items) (u .arcs)) (sym e) linked;
     }
 
 linked-push : (xs : List Item) (arcs : List Arc) (a : Arc) → Linked xs arcs → a .from < length xs → Linked xs (arcs ++ (a ∷ []))

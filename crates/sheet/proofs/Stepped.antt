@@ -65,18 +65,18 @@ module _ (t : Table) (i : ℕ) (f : Fit t) (l : i < t .count) where
       let lt : i < length ts = omega (arith, f .handed .paired) in
       let v = f .handed .valid i h in
       let hd : Handed xs (set ts i new) = record {
-          few = f .handed .few;
-          paired = length-set ts i new ∙ f .handed .paired;
-          valid = f .handed .valid;
-          late-small = λ j lj. set-at ts i j new (λ k u. u .late ≤ 1000000) lt (omega (arith, v .deadline-high, v .period-high)) (λ _. f .handed .late-small j lj);
-          wait-small = λ j lj. set-at ts i j new (λ k u. u .wait ≤ 1000000) lt (omega (arith, v .deadline-high, v .period-high)) (λ _. f .handed .wait-small j lj)
+        few = f .handed .few;
+        paired = length-set ts i new ∙ f .handed .paired;
+        valid = f .handed .valid;
+        late-small = λ j lj. set-at ts i j new (λ k u. u .late ≤ 1000000) lt (omega (arith, v .deadline-high, v .period-high)) (λ _. f .handed .late-small j lj);
+        wait-small = λ j lj. set-at ts i j new (λ k u. u .wait ≤ 1000000) lt (omega (arith, v .deadline-high, v .period-high)) (λ _. f .handed .wait-small j lj);
       } in
       record {
-          items-full = ap length (same .items) ∙ f .items-full;
-          arcs-full = ap length (same .arcs) ∙ f .arcs-full;
-          times-full = ap length times ∙ (length-set (t .times) i new ∙ f .times-full);
-          handed = subst (λ (u : State). Handed (u .items) (u .times)) (sym e) hd;
-          linked = subst (λ (u : State). Linked (u .items) (u .arcs)) (sym e) (f .linked)
+        items-full = ap length (same .items) ∙ f .items-full;
+        arcs-full = ap length (same .arcs) ∙ f .arcs-full;
+        times-full = ap length times ∙ (length-set (t .times) i new ∙ f .times-full);
+        handed = subst (λ (u : State). Handed (u .items) (u .times)) (sym e) hd;
+        linked = subst (λ (u : State). Linked (u .items) (u .arcs)) (sym e) (f .linked);
       }
 
 pub broken-is : (t t′ : Table) → Same t t′ → t′ .times ≡ t .times → t′ .broken ≡ true → stateOf t′ ≡ brokenOff (stateOf t)
@@ -90,18 +90,18 @@ broken-is t t′ same times broken =
 pub broken-fit : (t t′ : Table) → Fit t → Same t t′ → t′ .times ≡ t .times → stateOf t′ ≡ brokenOff (stateOf t) → Fit t′
 broken-fit t t′ f same times e =
     record {
-        items-full = ap length (same .items) ∙ f .items-full;
-        arcs-full = ap length (same .arcs) ∙ f .arcs-full;
-        times-full = ap length times ∙ f .times-full;
-        handed = subst (λ (u : State). Handed (u .items) (u .times)) (sym e) (f .handed);
-        linked = subst (λ (u : State). Linked (u .items) (u .arcs)) (sym e) (f .linked)
+      items-full = ap length (same .items) ∙ f .items-full;
+      arcs-full = ap length (same .arcs) ∙ f .arcs-full;
+      times-full = ap length times ∙ f .times-full;
+      handed = subst (λ (u : State). Handed (u .items) (u .times)) (sym e) (f .handed);
+      linked = subst (λ (u : State). Linked (u .items) (u .arcs)) (sym e) (f .linked);
     }
 
 -- what the code works out over the slices is what the definition finds
 pub found-is : (wait : Reckoning) (t : Table) (i : ℕ) (xs : List Item) (ts : List Times) (arcs : List Arc) (late w : ℕ)
-  → xs ≡ stateOf t .items → ts ≡ stateOf t .times → arcs ≡ stateOf t .arcs
-  → late ≡ latest xs ts i arcs (getD xs i noItem .offset) → w ≡ wait xs ts i
-  → timed late w ≡ found wait (stateOf t) i
+    → xs ≡ stateOf t .items → ts ≡ stateOf t .times → arcs ≡ stateOf t .arcs
+    → late ≡ latest xs ts i arcs (getD xs i noItem .offset) → w ≡ wait xs ts i
+    → timed late w ≡ found wait (stateOf t) i
 found-is wait t i xs ts arcs late w p q r a b =
     let l : late ≡ found wait (stateOf t) i .late = cc in
     let v : w ≡ found wait (stateOf t) i .wait = cc in

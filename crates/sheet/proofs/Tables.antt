@@ -20,42 +20,42 @@ use Rattle.sheet.specs.Tables.{stateOf, Linked, Fit}
 
 bytes-prop : (x : Item) → IsProp (Bytes x)
 bytes-prop x a b = λ j. record {
-    class-fits = le-prop (a .class-fits) (b .class-fits) j;
-    station-fits = le-prop (a .station-fits) (b .station-fits) j;
-    priority-fits = le-prop (a .priority-fits) (b .priority-fits) j;
-    queue-fits = le-prop (a .queue-fits) (b .queue-fits) j;
-    size-fits = le-prop (a .size-fits) (b .size-fits) j
+  class-fits = le-prop (a .class-fits) (b .class-fits) j;
+  station-fits = le-prop (a .station-fits) (b .station-fits) j;
+  priority-fits = le-prop (a .priority-fits) (b .priority-fits) j;
+  queue-fits = le-prop (a .queue-fits) (b .queue-fits) j;
+  size-fits = le-prop (a .size-fits) (b .size-fits) j;
 }
 
 valid-prop : (x : Item) → IsProp (Valid x)
 valid-prop x a b = λ j. record {
-    period-low = le-prop (a .period-low) (b .period-low) j;
-    period-high = le-prop (a .period-high) (b .period-high) j;
-    duration-low = le-prop (a .duration-low) (b .duration-low) j;
-    duration-high = le-prop (a .duration-high) (b .duration-high) j;
-    deadline-high = le-prop (a .deadline-high) (b .deadline-high) j;
-    mark-bit = le-prop (a .mark-bit) (b .mark-bit) j;
-    held-within = le-prop (a .held-within) (b .held-within) j;
-    offset-within = le-prop (a .offset-within) (b .offset-within) j;
-    bytes = bytes-prop x (a .bytes) (b .bytes) j
+  period-low = le-prop (a .period-low) (b .period-low) j;
+  period-high = le-prop (a .period-high) (b .period-high) j;
+  duration-low = le-prop (a .duration-low) (b .duration-low) j;
+  duration-high = le-prop (a .duration-high) (b .duration-high) j;
+  deadline-high = le-prop (a .deadline-high) (b .deadline-high) j;
+  mark-bit = le-prop (a .mark-bit) (b .mark-bit) j;
+  held-within = le-prop (a .held-within) (b .held-within) j;
+  offset-within = le-prop (a .offset-within) (b .offset-within) j;
+  bytes = bytes-prop x (a .bytes) (b .bytes) j;
 }
 
 handed-prop : (xs : List Item) (ts : List Times) → IsProp (Handed xs ts)
 handed-prop xs ts a b = λ j. record {
-    few = le-prop (a .few) (b .few) j;
-    paired = ℕ-set _ _ (a .paired) (b .paired) j;
-    valid = λ i l. valid-prop _ (a .valid i l) (b .valid i l) j;
-    late-small = λ i l. le-prop (a .late-small i l) (b .late-small i l) j;
-    wait-small = λ i l. le-prop (a .wait-small i l) (b .wait-small i l) j
+  few = le-prop (a .few) (b .few) j;
+  paired = ℕ-set _ _ (a .paired) (b .paired) j;
+  valid = λ i l. valid-prop _ (a .valid i l) (b .valid i l) j;
+  late-small = λ i l. le-prop (a .late-small i l) (b .late-small i l) j;
+  wait-small = λ i l. le-prop (a .wait-small i l) (b .wait-small i l) j;
 }
 
 fit-prop : (t : Table) → IsProp (Fit t)
 fit-prop t a b = λ j. record {
-    items-full = ℕ-set _ _ (a .items-full) (b .items-full) j;
-    arcs-full = ℕ-set _ _ (a .arcs-full) (b .arcs-full) j;
-    times-full = ℕ-set _ _ (a .times-full) (b .times-full) j;
-    handed = handed-prop _ _ (a .handed) (b .handed) j;
-    linked = λ k l. le-prop (a .linked k l) (b .linked k l) j
+  items-full = ℕ-set _ _ (a .items-full) (b .items-full) j;
+  arcs-full = ℕ-set _ _ (a .arcs-full) (b .arcs-full) j;
+  times-full = ℕ-set _ _ (a .times-full) (b .times-full) j;
+  handed = handed-prop _ _ (a .handed) (b .handed) j;
+  linked = λ k l. le-prop (a .linked k l) (b .linked k l) j;
 }
 
 -- the fact of a sheet's ghost field

@@ -27,10 +27,10 @@ spent-is wait zero s i q t r e l = ap (λ (e : Ending). ran s e t r) (cond-false
 spent-is wait (suc f) s i q t r e l = absurd (omega arith)
 
 turn-is : (wait : Reckoning) (f h : ℕ) (s : State) (i q t r : ℕ) → f ≡ suc h → q < length (s .items) → run-from wait f s i q t r ≡
-  by (outcome wait s i)
-  (run-from wait h (written s i (found wait s i)) (next s i) 0 (t + 1) (r + 1))
-  (run-from wait h (written s i (found wait s i)) (next s i) (q + 1) (t + 1) r)
-  (λ c. ran (brokenOff s) (Broken i c) (t + 1) r)
+    by (outcome wait s i)
+    (run-from wait h (written s i (found wait s i)) (next s i) 0 (t + 1) (r + 1))
+    (run-from wait h (written s i (found wait s i)) (next s i) (q + 1) (t + 1) r)
+    (λ c. ran (brokenOff s) (Broken i c) (t + 1) r)
 unfolding run-from
 turn-is wait f h s i q t r e l = ap (λ k. run-from wait k s i q t r) e ∙ cond-false _ _ _ (lt-leb _ _ l)
 

@@ -20,7 +20,10 @@ use promise::outcome::Refusal;
 fn clashes(number: usize, item: &Item, j: usize, other: &Item) -> bool
     ensures { λ r. ⌜ r ≡ (not (eqb j number) && rivals (now (item .entry)) (now (other .entry))) ⌝ }
 {
-    j != number && item.class == other.class && item.station == other.station && item.priority == other.priority
+    j != number
+        && item.class == other.class
+        && item.station == other.station
+        && item.priority == other.priority
 }
 
 /// Is the priority unused by others, where the item is or becomes `number`?
@@ -58,7 +61,10 @@ fn is_new_arc(arcs: &[Arc], from: usize, to: usize) -> bool
 fn keeps_fields(old: &Item, item: &Item) -> bool
     ensures { λ r. ⌜ r ≡ keepsFields (now (old .entry)) (now (item .entry)) ⌝ }
 {
-    old.class == item.class && old.station == item.station && old.mark == item.mark && old.period == item.period
+    old.class == item.class
+        && old.station == item.station
+        && old.mark == item.mark
+        && old.period == item.period
 }
 
 /// Appends an item, and sets all times back.
@@ -196,7 +202,13 @@ impl<R: Rule> Sheet<R> {
         if let Err(refusal) = self.ask_arc(from, to) {
             return Err(refusal);
         }
-        join(&mut self.table, Arc { from: from as u8, to: to as u8 });
+        join(
+            &mut self.table,
+            Arc {
+                from: from as u8,
+                to: to as u8,
+            },
+        );
         Ok(())
     }
 

@@ -90,7 +90,12 @@ impl<R: Rule> Sheet<R> {
         ensures { λ r. ⌜ r ≡ lineAt (stateOf (now (self .entry) .table)) i ⌝ }
     {
         let times = self.table.times[i];
-        Line { number: i, late: times.late, wait: times.wait, end: self.end(i) }
+        Line {
+            number: i,
+            late: times.late,
+            wait: times.wait,
+            end: self.end(i),
+        }
     }
 
     /// The largest load of a queue, and the item that first reaches it.
@@ -115,7 +120,8 @@ impl<R: Rule> Sheet<R> {
         ensures lines { λ _. ⌜ ((i : ℕ) → i < now (self .entry) .table .count → getD (now (table .exit)) i noLine ≡ lineAt (stateOf (now (self .entry) .table)) i) ⌝ }
         ensures rest { λ _. ⌜ drop (now (self .entry) .table .count) (now (table .exit)) ≡ drop (now (self .entry) .table .count) (now (table .entry)) ⌝ }
     {
-        for i in 0..self.table.count {
+        let n = self.table.count;
+        for i in 0..n {
             table[i] = self.line(i);
         }
     }
@@ -139,7 +145,12 @@ impl<R: Rule> Sheet<R> {
 
     /// The largest load among the items of a class, station and queue, and the smallest item number
     /// that reaches it, or nothing where there is no such item.
-    pub fn queue_bound(&self, class: u8, station: u8, queue: u8) -> Result<Option<QueueBound>, Refusal>
+    pub fn queue_bound(
+        &self,
+        class: u8,
+        station: u8,
+        queue: u8,
+    ) -> Result<Option<QueueBound>, Refusal>
         ensures answer { λ r. ⌜ r ≡ boundAnswer (meaning R·Rule (now (self .entry) .rule)) (stateOf (now (self .entry) .table)) class station queue ⌝ }
         ensures leaves { λ _. ⌜ Leaves (meaning R·Rule (now (self .entry) .rule)) (stateOf (now (self .entry) .table)) (Call.queueBound class station queue) (stateOf (now (self .entry) .table)) ⌝ }
     {
@@ -161,7 +172,11 @@ impl<R: Rule> Sheet<R> {
         ensures { λ r. ⌜ BySome r (length (stateOf (now (self .entry) .table) .items) ≤ number) (λ x. (number < length (stateOf (now (self .entry) .table) .items)) × (x ≡ itemAt (stateOf (now (self .entry) .table)) number)) ⌝ }
     {
         let items = self.table.items();
-        if number < items.len() { Some(items[number]) } else { None }
+        if number < items.len() {
+            Some(items[number])
+        } else {
+            None
+        }
     }
 
     /// An allowance that is always enough: (S + 1) × n, where n is the number of items and S the

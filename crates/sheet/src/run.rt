@@ -45,10 +45,18 @@ impl<R: Rule> Sheet<R> {
         let mut raises: u64 = 0;
         loop {
             if settles(quiet, n) {
-                break RunResult { ending: Ending::Settled, steps, raises };
+                break RunResult {
+                    ending: Ending::Settled,
+                    steps,
+                    raises,
+                };
             }
             if steps >= allowance {
-                break RunResult { ending: Ending::Spent, steps, raises };
+                break RunResult {
+                    ending: Ending::Spent,
+                    steps,
+                    raises,
+                };
             }
             let became = self.turn(item);
             steps += 1;
@@ -59,7 +67,11 @@ impl<R: Rule> Sheet<R> {
                 }
                 Became::Quiet => quiet += 1,
                 Became::Broke(cause) => {
-                    break RunResult { ending: Ending::Broken { item, cause }, steps, raises };
+                    break RunResult {
+                        ending: Ending::Broken { item, cause },
+                        steps,
+                        raises,
+                    };
                 }
             }
             item = next_item(item, n);

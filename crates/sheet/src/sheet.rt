@@ -52,6 +52,9 @@ impl<R: Rule> Sheet<R> {
         ensures state { λ r. ⌜ stateOf (r .table) ≡ empty ⌝ }
         ensures rule { λ r. ⌜ r .rule ≡ rule ⌝ }
     {
-        Sheet { rule, table: blank() }
+        Sheet {
+            rule,
+            table: blank(),
+        }
     }
 }

@@ -18,10 +18,10 @@ returns-in-Raised c =
     let same : Same t _ = record { count = refl; items = refl; arc-count = refl; arcs = refl } in
     let e = written-is t i f l _ (c .args .new) same refl refl in
     record {
-        answer = a;
-        state = simp (c .in-Raised .is) e;
-        fit = written-fit t i f l _ (c .args .new) same refl e (told-of t i f l (c .args .new) _ Raised a (c .in-Raised .is) .0);
-        count = refl
+      answer = a;
+      state = simp (c .in-Raised .is) e;
+      fit = written-fit t i f l _ (c .args .new) same refl e (told-of t i f l (c .args .new) _ Raised a (c .in-Raised .is) .0);
+      count = refl;
     }
 
 pub returns-in-Quiet : need.returns-in-Quiet
@@ -34,10 +34,10 @@ returns-in-Quiet c =
     let same : Same t _ = record { count = refl; items = refl; arc-count = refl; arcs = refl } in
     let e = written-is t i f l _ (c .args .new) same refl refl in
     record {
-        answer = a;
-        state = simp (c .in-Quiet .is) e;
-        fit = written-fit t i f l _ (c .args .new) same refl e (told-of t i f l (c .args .new) _ Quiet a (c .in-Quiet .is) .0);
-        count = refl
+      answer = a;
+      state = simp (c .in-Quiet .is) e;
+      fit = written-fit t i f l _ (c .args .new) same refl e (told-of t i f l (c .args .new) _ Quiet a (c .in-Quiet .is) .0);
+      count = refl;
     }
 
 pub returns-in-Broke : need.returns-in-Broke
@@ -49,8 +49,8 @@ returns-in-Broke c =
     let same : Same t (c .break-off .last .self) = record { count = off .count; items = off .items; arc-count = off .arc-count; arcs = off .arcs } in
     let e = broken-is t (c .break-off .last .self) same (off .times) (off .broken) in
     record {
-        answer = judged-is t i f (c .pre .inside) (c .args .new) (c .judge-became .result) (c .judge-became .ensures);
-        state = simp (c .in-Broke .is) e;
-        fit = broken-fit t (c .break-off .last .self) f same (off .times) e;
-        count = off .count
+      answer = judged-is t i f (c .pre .inside) (c .args .new) (c .judge-became .result) (c .judge-became .ensures);
+      state = simp (c .in-Broke .is) e;
+      fit = broken-fit t (c .break-off .last .self) f same (off .times) e;
+      count = off .count;
     }

@@ -37,14 +37,14 @@ loop-arc-again c =
     let l = c .loop-arc-test .taken in
     let m = c .loop-arc .late in
     let small = end-small xs ts arcs k (c .pre .handed) (c .pre .linked) l in
-    elim (c .if-arc-i .came)
-    [ then-arc-i w ↦ (on xs ts (c .args .i) arcs k m (c .if-arc-i .late) l (w .late-is ∙ (w .max-late .ensures ∙ sym (cond-true _ _ _ (eq-eqb _ _ (w .if-arc-i .taken))))) ∙ c .loop-arc .inv .0, omega (arith, w .late-is, w .max-late .ensures, c .loop-arc .inv .1))
-    | else-arc-i w ↦ (on xs ts (c .args .i) arcs k m (c .if-arc-i .late) l (w .late-is ∙ sym (cond-false _ _ _ (ne-eqb _ _ (w .if-arc-i .left)))) ∙ c .loop-arc .inv .0, omega (arith, w .late-is))
+    elim (c .if-arc-i .came) [
+      | then-arc-i w ↦ (on xs ts (c .args .i) arcs k m (c .if-arc-i .late) l (w .late-is ∙ (w .max-late .ensures ∙ sym (cond-true _ _ _ (eq-eqb _ _ (w .if-arc-i .taken))))) ∙ c .loop-arc .inv .0, omega (arith, w .late-is, w .max-late .ensures, c .loop-arc .inv .1))
+      | else-arc-i w ↦ (on xs ts (c .args .i) arcs k m (c .if-arc-i .late) l (w .late-is ∙ sym (cond-false _ _ _ (ne-eqb _ _ (w .if-arc-i .left)))) ∙ c .loop-arc .inv .0, omega (arith, w .late-is))
     ]
 
 pub returns : need.returns
 returns c =
     record {
-        value = sym (at-drop-all (λ r. latest (c .args .items .now) (c .args .times .now) (c .args .i) r (c .loop-arc .late)) (c .args .arcs .now) (c .loop-arc .arc-index) (c .loop-arc-test .left)) ∙ c .loop-arc .inv .0;
-        small = c .loop-arc .inv .1
+      value = sym (at-drop-all (λ r. latest (c .args .items .now) (c .args .times .now) (c .args .i) r (c .loop-arc .late)) (c .args .arcs .now) (c .loop-arc .arc-index) (c .loop-arc-test .left)) ∙ c .loop-arc .inv .0;
+      small = c .loop-arc .inv .1;
     }

@@ -15,9 +15,9 @@ returns-in-Err g c =
     let s : State = stateOf (c .args .self .now .table) in
     let e = c .in-Err .ensures tt in
     record {
-        answer = e;
-        leaves = leaves m (g .R·Rule·met .lawful ρ) s (Call.arc (c .args .from) (c .args .to)) s tt (left-refused (arcAsk s (c .args .from) (c .args .to)) _ s (c .in-Err .refusal) e);
-        rule = refl
+      answer = e;
+      leaves = leaves m (g .R·Rule·met .lawful ρ) s (Call.arc (c .args .from) (c .args .to)) s tt (left-refused (arcAsk s (c .args .from) (c .args .to)) _ s (c .in-Err .refusal) e);
+      rule = refl;
     }
 
 pub cast-from : need.cast-from
@@ -51,7 +51,7 @@ returns g c =
     let s : State = stateOf (c .args .self .now .table) in
     let e = c .in-rest .ensures tt in
     record {
-        answer = e;
-        leaves = leaves m (g .R·Rule·met .lawful ρ) s (Call.arc (c .args .from) (c .args .to)) (stateOf (c .join .last .t)) tt (c .join .ensures .state ∙ left-granted (arcAsk s (c .args .from) (c .args .to)) _ s e);
-        rule = refl
+      answer = e;
+      leaves = leaves m (g .R·Rule·met .lawful ρ) s (Call.arc (c .args .from) (c .args .to)) (stateOf (c .join .last .t)) tt (c .join .ensures .state ∙ left-granted (arcAsk s (c .args .from) (c .args .to)) _ s e);
+      rule = refl;
     }

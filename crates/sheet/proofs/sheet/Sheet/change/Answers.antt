@@ -25,9 +25,9 @@ returns-in-Err g c =
     let bytes : Bytes x = search needs in
     let e = c .in-Err .ensures tt in
     record {
-        answer = e;
-        leaves = leaves m (g .R·Rule·met .lawful ρ) s (Call.change i x) s bytes (left-refused (changeAsk m s i x) _ s (c .in-Err .refusal) e);
-        rule = refl
+      answer = e;
+      leaves = leaves m (g .R·Rule·met .lawful ρ) s (Call.change i x) s bytes (left-refused (changeAsk m s i x) _ s (c .in-Err .refusal) e);
+      rule = refl;
     }
 
 pub replace-requires : need.replace-requires
@@ -45,9 +45,9 @@ replace-requires g c κs =
     let il : i < length (s .items) = ltb-true _ _ (exists .0) in
     let same : itemAt s i .period ≡ x .period = eqb-true _ _ (and-parts _ _ (keeps .0) .1) in
     record {
-        fit = f;
-        inside = omega (arith, items-count t f);
-        valid = valid-changed (itemAt s i) x (f .handed .valid i il) same (limits .0) (start .0) bytes
+      fit = f;
+      inside = omega (arith, items-count t f);
+      valid = valid-changed (itemAt s i) x (f .handed .valid i il) same (limits .0) (start .0) bytes;
     }
 
 pub ghost-self : need.ghost-self
@@ -63,7 +63,7 @@ returns g c =
     let bytes : Bytes x = search needs in
     let e = c .in-rest .ensures tt in
     record {
-        answer = e;
-        leaves = leaves m (g .R·Rule·met .lawful ρ) s (Call.change i x) (stateOf (c .replace .last .t)) bytes (c .replace .ensures .state ∙ left-granted (changeAsk m s i x) _ s e);
-        rule = refl
+      answer = e;
+      leaves = leaves m (g .R·Rule·met .lawful ρ) s (Call.change i x) (stateOf (c .replace .last .t)) bytes (c .replace .ensures .state ∙ left-granted (changeAsk m s i x) _ s e);
+      rule = refl;
     }

@@ -21,9 +21,16 @@ use Rattle.sheet.proofs.sheet.Sheet.cycle.Needs.{in-Raised, in-Quiet}
 pub loop-self-holds : need.loop-self-holds
 loop-self-holds g c =
     let t = c .args .self .now .table in
-    let z : c .args .allowance - 0 ≡ c .args .allowance = omega arith in
-    ( ap (λ k. run-from (g .R·Rule .wait (c .args .self .now .rule)) k (stateOf t) 0 0 0 0) z
-    , refl, items-count t (fit-of t (c .args .self .now .fit)), refl, (λ h. h), omega arith, omega arith, omega arith)
+    let z : c .args .allowance - 0 ≡ c .args .allowance = omega arith in (
+      ap (λ k. run-from (g .R·Rule .wait (c .args .self .now .rule)) k (stateOf t) 0 0 0 0) z,
+      refl,
+      items-count t (fit-of t (c .args .self .now .fit)),
+      refl,
+      (λ h. h),
+      omega arith,
+      omega arith,
+      omega arith,
+    )
 
 pub loop-self-again : need.loop-self-again
 loop-self-again g c =
@@ -38,17 +45,18 @@ loop-self-again g c =
     let o : c .turn-became .result ≡ outcome (D ρ) s i = subst (λ (x : g .R .Denot). c .turn-became .result ≡ outcome (D x) s i) (inv .1) (c .turn-became .ensures .answer) in
     let st : s′ ≡ stepped (D ρ) s i = subst (λ (x : g .R .Denot). s′ ≡ stepped (D x) s i) (inv .1) (c .turn-became .ensures .state) in
     let way : ((outcome (D ρ) s i ≡ Raised) × (c .match-became .quiet ≡ 0) × (c .match-became .raises ≡ c .loop-self .raises + 1)) ⊎ ((outcome (D ρ) s i ≡ Quiet) × (c .match-became .quiet ≡ c .loop-self .quiet + 1) × (c .match-became .raises ≡ c .loop-self .raises)) =
-      elim (c .match-became .came) [ in-Raised w ↦ inl (sym o ∙ w .in-Raised .is, w .quiet-is, w .raises-is) | in-Quiet w ↦ inr (sym o ∙ w .in-Quiet .is, w .quiet-is, w .raises-is) ] in
-    let j : c .next-item-item .result ≡ next s i = c .next-item-item .ensures .value ∙ ap (λ k. cond (ltb (i + 1) k) (i + 1) 0) (sym n) in
-    ( again (D ρ) (c .args .allowance - steps) (c .args .allowance - (steps + 1)) s s′ i (c .loop-self .quiet) steps (c .loop-self .raises)
-      (omega (arith, c .if-steps-allowance .left)) (omega (arith, leb-false _ _ (sym (c .if-settles .ensures tt)))) st (c .next-item-item .result) (c .match-became .quiet) (c .match-became .raises) j way ∙ inv .0
-    , c .turn-became .ensures .rule ∙ inv .1
-    , ap length (step-items (D ρ) s s′ i st) ∙ n
-    , c .turn-became .ensures .count ∙ inv .3
-    , (λ _. c .next-item-item .ensures .inside)
-    , omega (arith, c .if-steps-allowance .left)
-    , omega (arith, inv .6)
-    , omega (arith, leb-false _ _ (sym (c .if-settles .ensures tt))))
+    elim (c .match-became .came) [ in-Raised w ↦ inl (sym o ∙ w .in-Raised .is, w .quiet-is, w .raises-is) | in-Quiet w ↦ inr (sym o ∙ w .in-Quiet .is, w .quiet-is, w .raises-is) ] in
+    let j : c .next-item-item .result ≡ next s i = c .next-item-item .ensures .value ∙ ap (λ k. cond (ltb (i + 1) k) (i + 1) 0) (sym n) in (
+      again (D ρ) (c .args .allowance - steps) (c .args .allowance - (steps + 1)) s s′ i (c .loop-self .quiet) steps (c .loop-self .raises)
+          (omega (arith, c .if-steps-allowance .left)) (omega (arith, leb-false _ _ (sym (c .if-settles .ensures tt)))) st (c .next-item-item .result) (c .match-became .quiet) (c .match-became .raises) j way ∙ inv .0,
+      c .turn-became .ensures .rule ∙ inv .1,
+      ap length (step-items (D ρ) s s′ i st) ∙ n,
+      c .turn-became .ensures .count ∙ inv .3,
+      (λ _. c .next-item-item .ensures .inside),
+      omega (arith, c .if-steps-allowance .left),
+      omega (arith, inv .6),
+      omega (arith, leb-false _ _ (sym (c .if-settles .ensures tt))),
+    )
 
 pub returns-then-settles : need.returns-then-settles
 returns-then-settles g c =
@@ -75,5 +83,5 @@ returns-in-Broke g c =
     let o : c .turn-became .result ≡ outcome (D ρ) s i = subst (λ (x : g .R .Denot). c .turn-became .result ≡ outcome (D x) s i) (inv .1) (c .turn-became .ensures .answer) in
     let st : s′ ≡ stepped (D ρ) s i = subst (λ (x : g .R .Denot). s′ ≡ stepped (D x) s i) (inv .1) (c .turn-became .ensures .state) in
     let e = broke-is (D ρ) (c .args .allowance - c .loop-self .steps) (c .args .allowance - (c .loop-self .steps + 1)) s s′ i (c .loop-self .quiet) (c .loop-self .steps) (c .loop-self .raises)
-      (omega (arith, c .if-steps-allowance .left)) (omega (arith, inv .2, leb-false _ _ (sym (c .if-settles .ensures tt)))) st (c .in-Broke .cause) (sym o ∙ c .in-Broke .is) ∙ inv .0 in
+    (omega (arith, c .if-steps-allowance .left)) (omega (arith, inv .2, leb-false _ _ (sym (c .if-settles .ensures tt)))) st (c .in-Broke .cause) (sym o ∙ c .in-Broke .is) ∙ inv .0 in
     record { answer = ap (λ (x : Ran). x .result) e; state = ap (λ (x : Ran). x .state) e; rule = c .turn-became .ensures .rule ∙ inv .1 }

@@ -9,7 +9,7 @@ use Rattle.sheet.proofs.sheet.Sheet.cycle.Given as given
 abbrev pub Inv-loop-self : given.InvT-loop-self
 Inv-loop-self g l =
     (run-from (g .R·Rule .wait (l .entry .self .rule)) (l .allowance - l .steps) (stateOf (l .self .table)) (l .item) (l .quiet) (l .steps) (l .raises)
-      ≡ run-of (g .R·Rule .wait (l .entry .self .rule)) (stateOf (l .entry .self .table)) (l .allowance))
+    ≡ run-of (g .R·Rule .wait (l .entry .self .rule)) (stateOf (l .entry .self .table)) (l .allowance))
     × (l .self .rule ≡ l .entry .self .rule)
     × (length (stateOf (l .self .table) .items) ≡ l .n)
     × (l .self .table .count ≡ l .n)

@@ -27,9 +27,9 @@ returns-in-Err g c =
     let bytes : Bytes x = search needs in
     let e = c .in-Err .ensures tt in
     record {
-        answer = then-refused (entryAsk m s x) _ (c .in-Err .refusal) e;
-        leaves = leaves m (g .R·Rule·met .lawful ρ) s (Call.entry x) s bytes (left-refused (entryAsk m s x) _ s (c .in-Err .refusal) e);
-        rule = refl
+      answer = then-refused (entryAsk m s x) _ (c .in-Err .refusal) e;
+      leaves = leaves m (g .R·Rule·met .lawful ρ) s (Call.entry x) s bytes (left-refused (entryAsk m s x) _ s (c .in-Err .refusal) e);
+      rule = refl;
     }
 
 pub push-requires : need.push-requires
@@ -42,9 +42,9 @@ push-requires g c κs =
     let limits = ask-ok _ _ _ (period .1) in
     let start = ask-ok _ _ _ (limits .1) in
     record {
-        fit = f;
-        room = omega (arith, items-count t f, ltb-true _ _ (few .0));
-        valid = valid-from (c .args .item) (period .0) (limits .0) (start .0) bytes
+      fit = f;
+      room = omega (arith, items-count t f, ltb-true _ _ (few .0));
+      valid = valid-from (c .args .item) (period .0) (limits .0) (start .0) bytes;
     }
 
 pub ghost-self : need.ghost-self
@@ -61,7 +61,7 @@ returns g c =
     let e = c .in-rest .ensures tt in
     let number : ℕ → Result ℕ Refusal = λ n. Ok n in
     record {
-        answer = ap number (sym (items-count t (fit-of t (c .args .self .now .fit)))) ∙ then-granted (entryAsk m s x) _ e;
-        leaves = leaves m (g .R·Rule·met .lawful ρ) s (Call.entry x) (stateOf (c .push .last .t)) bytes (c .push .ensures .state ∙ left-granted (entryAsk m s x) _ s e);
-        rule = refl
+      answer = ap number (sym (items-count t (fit-of t (c .args .self .now .fit)))) ∙ then-granted (entryAsk m s x) _ e;
+      leaves = leaves m (g .R·Rule·met .lawful ρ) s (Call.entry x) (stateOf (c .push .last .t)) bytes (c .push .ensures .state ∙ left-granted (entryAsk m s x) _ s e);
+      rule = refl;
     }

@@ -12,8 +12,9 @@ pub loop-i-again : need.loop-i-again
 loop-i-again g c =
     let i = c .loop-i .i in
     let rows = c .loop-i .table in
-    let l : i < length rows = omega arith in
-    ( below-more _ _
-      (λ k h. let ne : k ≢ i = omega arith in getD-set-other rows i k (c .line .result) noLine ne ∙ c .loop-i .inv .0 k h)
-      (getD-set-same rows i (c .line .result) noLine l ∙ c .line .ensures)
-    , drop-set-lt (c .args .self .now .table .count) rows i (c .line .result) (omega arith) ∙ c .loop-i .inv .1 )
+    let l : i < length rows = omega arith in (
+      below-more _ _
+          (λ k h. let ne : k ≢ i = omega arith in getD-set-other rows i k (c .line .result) noLine ne ∙ c .loop-i .inv .0 k h)
+          (getD-set-same rows i (c .line .result) noLine l ∙ c .line .ensures),
+      drop-set-lt (c .args .self .now .table .count) rows i (c .line .result) (omega arith) ∙ c .loop-i .inv .1,
+    )

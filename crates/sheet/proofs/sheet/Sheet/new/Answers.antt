@@ -9,7 +9,7 @@ ghost-result g c = (∣ c .blank .ensures .fit ∣₁, tt)
 pub returns : need.returns
 returns g c =
     record {
-        promise = promised (meaning (g .R·Rule) (c .args .rule)) (g .R·Rule·met .lawful (c .args .rule));
-        state = c .blank .ensures .state;
-        rule = refl
+      promise = promised (meaning (g .R·Rule) (c .args .rule)) (g .R·Rule·met .lawful (c .args .rule));
+      state = c .blank .ensures .state;
+      rule = refl;
     }

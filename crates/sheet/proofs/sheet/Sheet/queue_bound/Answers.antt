@@ -17,8 +17,8 @@ returns-in-Err g c =
     let m : Meaning = meaning (g .R·Rule) ρ in
     let s : State = stateOf (c .args .self .now .table) in
     record {
-        answer = then-refused (settledAsk m s) _ (c .in-Err .refusal) (c .in-Err .ensures tt);
-        leaves = leaves m (g .R·Rule·met .lawful ρ) s (Call.queueBound (c .args .class) (c .args .station) (c .args .queue)) s tt refl
+      answer = then-refused (settledAsk m s) _ (c .in-Err .refusal) (c .in-Err .ensures tt);
+      leaves = leaves m (g .R·Rule·met .lawful ρ) s (Call.queueBound (c .args .class) (c .args .station) (c .args .queue)) s tt refl;
     }
 
 pub returns : need.returns
@@ -28,6 +28,6 @@ returns g c =
     let s : State = stateOf (c .args .self .now .table) in
     let made : Option QueueBound → Result (Option QueueBound) Refusal = λ b. Ok b in
     record {
-        answer = ap made (c .bound .ensures) ∙ then-granted (settledAsk m s) _ (c .in-rest .ensures tt);
-        leaves = leaves m (g .R·Rule·met .lawful ρ) s (Call.queueBound (c .args .class) (c .args .station) (c .args .queue)) s tt refl
+      answer = ap made (c .bound .ensures) ∙ then-granted (settledAsk m s) _ (c .in-rest .ensures tt);
+      leaves = leaves m (g .R·Rule·met .lawful ρ) s (Call.queueBound (c .args .class) (c .args .station) (c .args .queue)) s tt refl;
     }

@@ -20,9 +20,9 @@ returns-then-self g c =
     let s : State = stateOf (c .args .self .now .table) in
     let e : Err SheetBroken ≡ runAsk s = sym (cond-false (not (s .broken)) (Ok tt) (Err SheetBroken) (not-from-true (s .broken) (c .if-self .taken))) in
     record {
-        answer = then-refused (runAsk s) _ SheetBroken e;
-        leaves = leaves m (g .R·Rule·met .lawful ρ) s (Call.run (c .args .allowance)) s tt (left-refused (runAsk s) _ s SheetBroken e);
-        rule = refl
+      answer = then-refused (runAsk s) _ SheetBroken e;
+      leaves = leaves m (g .R·Rule·met .lawful ρ) s (Call.run (c .args .allowance)) s tt (left-refused (runAsk s) _ s SheetBroken e);
+      rule = refl;
     }
 
 pub returns : need.returns
@@ -33,7 +33,7 @@ returns g c =
     let e : Ok tt ≡ runAsk s = sym (cond-true (not (s .broken)) (Ok tt) (Err SheetBroken) (not-from-false (s .broken) (c .if-self .left))) in
     let made : RunResult → Result RunResult Refusal = λ r. Ok r in
     record {
-        answer = ap made (c .cycle .ensures .answer) ∙ then-granted (runAsk s) _ e;
-        leaves = leaves m (g .R·Rule·met .lawful ρ) s (Call.run (c .args .allowance)) (stateOf (c .cycle .last .self .table)) tt (c .cycle .ensures .state ∙ left-granted (runAsk s) _ s e);
-        rule = c .cycle .ensures .rule
+      answer = ap made (c .cycle .ensures .answer) ∙ then-granted (runAsk s) _ e;
+      leaves = leaves m (g .R·Rule·met .lawful ρ) s (Call.run (c .args .allowance)) (stateOf (c .cycle .last .self .table)) tt (c .cycle .ensures .state ∙ left-granted (runAsk s) _ s e);
+      rule = c .cycle .ensures .rule;
     }

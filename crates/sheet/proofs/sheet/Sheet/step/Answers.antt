@@ -30,9 +30,9 @@ returns-in-Err g c =
     let s : State = stateOf (c .args .self .now .table) in
     let e = c .in-Err .ensures tt in
     record {
-        answer = then-refused (stepAsk s i) _ (c .in-Err .refusal) e;
-        leaves = leaves m (g .R·Rule·met .lawful ρ) s (Call.step i) s tt (left-refused (stepAsk s i) _ s (c .in-Err .refusal) e);
-        rule = refl
+      answer = then-refused (stepAsk s i) _ (c .in-Err .refusal) e;
+      leaves = leaves m (g .R·Rule·met .lawful ρ) s (Call.step i) s tt (left-refused (stepAsk s i) _ s (c .in-Err .refusal) e);
+      rule = refl;
     }
 
 pub turn-became-requires : need.turn-became-requires
@@ -58,9 +58,9 @@ returns g c =
     let e = c .in-rest .ensures tt in
     let pair : Became → ℕ → Result (Became × ℕ) Refusal = λ b n. Ok (b, n) in
     let end : c .end .result ≡ endAt (s .items) (stepped (m .wait) s i .times) i =
-      c .end .ensures ∙ (ap (λ (xs : List Item). endAt xs (s′ .times) i) (step-items (m .wait) s s′ i st) ∙ ap (λ (u : State). endAt (s .items) (u .times) i) st) in
+    c .end .ensures ∙ (ap (λ (xs : List Item). endAt xs (s′ .times) i) (step-items (m .wait) s s′ i st) ∙ ap (λ (u : State). endAt (s .items) (u .times) i) st) in
     record {
-        answer = ap (λ b. pair b (c .end .result)) (c .turn-became .ensures .answer) ∙ (ap (pair (outcome (m .wait) s i)) end ∙ then-granted (stepAsk s i) _ e);
-        leaves = leaves m (g .R·Rule·met .lawful ρ) s (Call.step i) s′ tt (st ∙ left-granted (stepAsk s i) _ s e);
-        rule = c .turn-became .ensures .rule
+      answer = ap (λ b. pair b (c .end .result)) (c .turn-became .ensures .answer) ∙ (ap (pair (outcome (m .wait) s i)) end ∙ then-granted (stepAsk s i) _ e);
+      leaves = leaves m (g .R·Rule·met .lawful ρ) s (Call.step i) s′ tt (st ∙ left-granted (stepAsk s i) _ s e);
+      rule = c .turn-became .ensures .rule;
     }

@@ -20,9 +20,9 @@ returns-in-Err g c =
     let m : Meaning = meaning (g .R·Rule) ρ in
     let s : State = stateOf (c .args .self .now .table) in
     record {
-        answer = then-refused (settledAsk m s) _ (c .in-Err .refusal) (c .in-Err .ensures tt);
-        rows = refl;
-        leaves = leaves m (g .R·Rule·met .lawful ρ) s (Call.times (length (c .args .table .now))) s tt refl
+      answer = then-refused (settledAsk m s) _ (c .in-Err .refusal) (c .in-Err .ensures tt);
+      rows = refl;
+      leaves = leaves m (g .R·Rule·met .lawful ρ) s (Call.times (length (c .args .table .now))) s tt refl;
     }
 
 pub returns-then-self-table : need.returns-then-self-table
@@ -34,9 +34,9 @@ returns-then-self-table g c =
     let n = items-count t (fit-of t (c .args .self .now .fit)) in
     let short : leb (length (s .items)) (length (c .args .table .now)) ≡ false = lt-leb (length (s .items)) (length (c .args .table .now)) (omega arith) in
     record {
-        answer = sym (cond-false _ (Ok tt) (Err ShortTable) short) ∙ then-granted (settledAsk m s) _ (c .in-rest .ensures tt);
-        rows = refl;
-        leaves = leaves m (g .R·Rule·met .lawful ρ) s (Call.times (length (c .args .table .now))) s tt refl
+      answer = sym (cond-false _ (Ok tt) (Err ShortTable) short) ∙ then-granted (settledAsk m s) _ (c .in-rest .ensures tt);
+      rows = refl;
+      leaves = leaves m (g .R·Rule·met .lawful ρ) s (Call.times (length (c .args .table .now))) s tt refl;
     }
 
 pub returns : need.returns
@@ -48,7 +48,7 @@ returns g c =
     let n : length (s .items) ≡ t .count = items-count t (fit-of t (c .args .self .now .fit)) in
     let long : leb (length (s .items)) (length (c .args .table .now)) ≡ true = le-leb (length (s .items)) (length (c .args .table .now)) (omega arith) in
     record {
-        answer = sym (cond-true _ (Ok tt) (Err ShortTable) long) ∙ then-granted (settledAsk m s) _ (c .in-rest .ensures tt);
-        rows = record { lines = λ i l. c .fill .ensures .lines i (omega arith); rest = subst (λ k. drop k (c .fill .last .table) ≡ drop k (c .args .table .now)) (sym n) (c .fill .ensures .rest) };
-        leaves = leaves m (g .R·Rule·met .lawful ρ) s (Call.times (length (c .args .table .now))) s tt refl
+      answer = sym (cond-true _ (Ok tt) (Err ShortTable) long) ∙ then-granted (settledAsk m s) _ (c .in-rest .ensures tt);
+      rows = record { lines = λ i l. c .fill .ensures .lines i (omega arith); rest = subst (λ k. drop k (c .fill .last .table) ≡ drop k (c .args .table .now)) (sym n) (c .fill .ensures .rest) };
+      leaves = leaves m (g .R·Rule·met .lawful ρ) s (Call.times (length (c .args .table .now))) s tt refl;
     }

@@ -4,10 +4,10 @@ use Rattle.sheet.proofs.sheet.Sheet.turn.Needs as need
 pub apply-requires : need.apply-requires
 apply-requires g c κs =
     record {
-        fit = fit-of (c .args .self .now .table) (c .args .self .now .fit);
-        inside = c .pre .inside;
-        late = c .find-new .ensures .late;
-        wait = c .find-new .ensures .wait
+      fit = fit-of (c .args .self .now .table) (c .args .self .now .fit);
+      inside = c .pre .inside;
+      late = c .find-new .ensures .late;
+      wait = c .find-new .ensures .wait;
     }
 
 pub ghost-self : need.ghost-self
