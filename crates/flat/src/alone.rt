@@ -1,4 +1,3 @@
-ghost use mathlib.Core.Path.{_≡_};
 ghost use Rattle.promise.specs.Promise.{Kept};
 ghost use Rattle.sheet.specs.Tables.{stateOf};
 ghost use Rattle.flat.specs.Flatly.{flatly};

@@ -1,4 +1,3 @@
-ghost use mathlib.Core.Path.{_≡_};
 ghost use Rattle.flat.specs.Flatly.{flatAdmits, flatWait, flatLoad};
 use model::item::Item;
 use model::rule::Rule;

@@ -2,8 +2,7 @@
 use mathlib.Core.Path.{_≡_, refl, _∙_}
 use mathlib.Core.Bool.{cond, _&&_, _||_}
 use mathlib.Core.Logic.{_⊎_, inl, inr, ⊎-elim}
-use Prim.Native.Nat.{ℕ, _≤_, _<_}
-use native.Mathlib.Omega.{arith}
+use Prim.Native.Nat.{_≤_, _<_}
 use lib.Dec.{eqb, ltb}
 use Rattle.std.proofs.shelf.Tests.{eqb-true, eqb-false, ne-eqb, ltb-true, ltb-false, le-ltb, cond-both, cond-false, cases-eq, and-parts, and-cases, or-cases, or-parts, or-from, and-left, and-right}
 use Rattle.model.specs.declared.item.Item.{Item}

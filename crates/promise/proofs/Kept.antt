@@ -1,9 +1,9 @@
 -- What the invariant says of lawful sets: the promise of one state, and of all of them.
-use mathlib.Core.Path.{_≡_, refl, sym, ap, subst, _∙_}
+use mathlib.Core.Path.{_≡_, sym, ap, subst, _∙_}
 use mathlib.Core.List.{List}
-use mathlib.Core.Bool.{Bool, true, false, cond, not}
+use mathlib.Core.Bool.{false, not}
 use mathlib.Core.Logic.{⊎-elim}
-use Prim.Native.Nat.{ℕ, _≤_, _<_, _+_, _-_, _*_}
+use Prim.Native.Nat.{ℕ, _≤_, _<_, _+_, _-_}
 use native.Mathlib.Omega.{arith}
 use native.Mathlib.Nat.{add-mul, mul-le-mul-right, one-mul}
 use lib.Dec.{leb}
@@ -31,11 +31,11 @@ use Rattle.promise.specs.declared.outcome.RunResult.{RunResult}
 use Rattle.promise.specs.State.{State, Meaning, empty, itemAt, timesAt}
 use Rattle.promise.specs.Steps.{found, outcome, stepped, isQuiet}
 use Rattle.promise.specs.Runs.{Ran, run-of}
-use Rattle.promise.specs.Calls.{ask, isThere, allQuiet, stepAsk, runAsk, settledAsk, runAnswer, boundTo, Call, entry, arc, change, step, run, times, queueBound, Made, AllMade, after, afterAll}
-use Rattle.promise.specs.Promise.{LawfulFor, Hopeless, IsSettled, room, enough, loadThere, boundOf, Tells, Decided, RunKept, BoundIs, BoundKept, AnswerKept, Kept, Agree, Promised, Leaves}
+use Rattle.promise.specs.Calls.{ask, isThere, stepAsk, runAsk, settledAsk, runAnswer, boundTo, Call, entry, arc, change, step, run, times, queueBound, Made, AllMade, after, afterAll}
+use Rattle.promise.specs.Promise.{LawfulFor, IsSettled, room, enough, loadThere, boundOf, Tells, Decided, RunKept, BoundKept, AnswerKept, Kept, Agree, Promised, Leaves}
 use Rattle.promise.proofs.Latest.{end-mono}
 use Rattle.promise.proofs.Judged.{Told, told}
-use Rattle.promise.proofs.Invariant.{lawful-handed, here, quiet-lawful, lawful-quiet, timed, times-same}
+use Rattle.promise.proofs.Invariant.{lawful-handed, here, quiet-lawful, lawful-quiet, times-same}
 use Rattle.promise.proofs.Run.{slack, sum, bound, Ends, RanWell}
 use Rattle.promise.proofs.Bounds.{Best, best}
 use Rattle.promise.proofs.Whole.{Whole, ask-ok, then-ok, none-tells, none-from, quiet-is, after-whole, all-whole, empty-whole, step-low, run-is-well}

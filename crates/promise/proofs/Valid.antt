@@ -1,7 +1,7 @@
 -- A record whose questions were answered with yes is valid.
 use mathlib.Core.Path.{_≡_}
-use mathlib.Core.Bool.{true, _&&_}
-use Prim.Native.Nat.{ℕ, _≤_}
+use mathlib.Core.Bool.{true}
+use Prim.Native.Nat.{_≤_}
 use native.Mathlib.Omega.{arith}
 use Rattle.std.proofs.shelf.Tests.{leb-true, ltb-true, and-parts}
 use Rattle.model.specs.declared.item.Item.{Item}

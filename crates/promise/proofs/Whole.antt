@@ -1,43 +1,32 @@
 -- The promise, from the invariant over all lists of calls.
 use mathlib.Core.Path.{_≡_, refl, sym, ap, subst, _∙_}
 use mathlib.Core.List.{List, [], _∷_, _++_}
-use mathlib.Core.Bool.{Bool, true, false, cond, not, _&&_}
+use mathlib.Core.Bool.{Bool, true, false, not}
 use mathlib.Core.Logic.{⊎-elim}
-use Prim.Native.Nat.{ℕ, zero, suc, _≤_, _<_, _+_, _-_, _*_}
+use Prim.Native.Nat.{ℕ, zero, suc, _≤_, _<_, _+_, _-_}
 use native.Mathlib.Omega.{arith}
-use native.Mathlib.Nat.{add-mul, mul-le-mul-right, one-mul}
-use lib.Dec.{eqb, leb, ltb}
 use lib.ListN.{length, getD, set}
-use Rattle.std.specs.declared.option.Option.{Option}
-use Rattle.std.specs.declared.option.Option.the-variants.{Some, None}
 use Rattle.std.specs.declared.result.Result.{Result}
 use Rattle.std.specs.declared.result.Result.the-variants.{Ok, Err}
-use Rattle.std.specs.shelf.Lists.{sumBy}
-use Rattle.std.proofs.shelf.Lists.{getD-append-left, getD-push, length-push, getD-set-same, getD-set-other, length-set, ext-getD}
-use Rattle.std.proofs.shelf.Tests.{ltb-true, eqb-true, cases-lt, cases-eq, cases-bool, both-ways, and-parts, and-from, not-true, not-from-false}
+use Rattle.std.proofs.shelf.Lists.{getD-append-left, getD-push, length-push, getD-set-same, getD-set-other, length-set}
+use Rattle.std.proofs.shelf.Tests.{ltb-true, eqb-true, cases-lt, cases-eq, both-ways, and-parts, and-from, not-true, not-from-false}
 use Rattle.model.specs.declared.arc.Arc.{Arc}
 use Rattle.model.specs.declared.item.Item.{Item}
 use Rattle.model.specs.declared.times.Times.{Times}
-use Rattle.model.specs.Items.{noItem, noTimes, endOf, Bytes, Valid}
+use Rattle.model.specs.Items.{noItem, Valid}
 use Rattle.model.specs.Laws.{Below, Monotone, Reckoning}
-use Rattle.model.specs.Lawful.{lateAt, waitAt, endAt, LawfulAt, Lawful}
-use Rattle.model.specs.Folds.{largestTo}
-use Rattle.model.proofs.Folds.{largestTo-rises}
+use Rattle.model.specs.Lawful.{Lawful}
 use Rattle.promise.proofs.Valid.{valid-from, valid-changed}
 use Rattle.promise.specs.declared.outcome.Became.{Became}
 use Rattle.promise.specs.declared.outcome.Became.the-variants.{Raised, Quiet, Broke}
-use Rattle.promise.specs.declared.outcome.Ending.{Ending}
-use Rattle.promise.specs.declared.outcome.Ending.the-variants.{Settled, Spent, Broken}
-use Rattle.promise.specs.declared.outcome.QueueBound.{QueueBound}
 use Rattle.promise.specs.declared.outcome.Refusal.{Refusal}
-use Rattle.promise.specs.declared.outcome.RunResult.{RunResult}
 use Rattle.promise.specs.State.{State, Meaning, fresh, empty, itemAt, timesAt}
 use Rattle.promise.specs.Steps.{found, outcome, stepped, isQuiet}
 use Rattle.promise.specs.Runs.{Ran, run-of}
 use Rattle.promise.specs.Calls.{ask, then, noneTo, entryAsk, arcAsk, changeAsk, stepAsk, runAsk, Call, entry, arc, change, step, run, times, queueBound, Made, AllMade, left, after, afterAll}
 use Rattle.promise.proofs.Judged.{Told, told, by-cases}
-use Rattle.promise.proofs.Invariant.{Sound, Inv, handed, inv-start, lawful-handed, here, no-hope, inv-step, quiet-lawful, lawful-quiet}
-use Rattle.promise.proofs.Run.{opened, slack, sum, bound, Ends, RanWell, run-well, covered-none}
+use Rattle.promise.proofs.Invariant.{Sound, Inv, inv-start, no-hope, inv-step}
+use Rattle.promise.proofs.Run.{bound, RanWell, run-well, covered-none}
 
 pub record Whole (wait : Reckoning) (s : State) : Type 0 where
   pub inv : Inv wait (s .items) (s .arcs) (s .times)

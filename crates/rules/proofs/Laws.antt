@@ -1,6 +1,6 @@
 -- The law of each class, from its parts.
 use mathlib.Core.List.{List}
-use Prim.Native.Nat.{ℕ, min, _≤_, _<_, _+_, _*_, _^_}
+use Prim.Native.Nat.{ℕ, _≤_, _<_, _^_}
 use native.Mathlib.Nat.{add-le-add, le-refl, mul-le-mul-right}
 use native.Mathlib.Omega.{arith}
 use lib.ListN.{length}
@@ -8,11 +8,10 @@ use Rattle.std.specs.declared.option.Option.{Option}
 use Rattle.model.specs.declared.item.Item.{Item}
 use Rattle.model.specs.Laws.{Monotone, StaysBelow, Law}
 use Rattle.rules.specs.declared.gateway.Slot.{Slot}
-use Rattle.rules.specs.Stations.{stationAt}
-use Rattle.rules.specs.Sums.{⌈_/_⌉, Part, Fair, overStronger, largestOfWeaker, capped, waiting, loading}
+use Rattle.rules.specs.Sums.{Part, Fair, largestOfWeaker, capped, waiting, loading}
 use Rattle.rules.specs.Processor.{processorWait, work}
 use Rattle.rules.specs.Can.{canWait, canLoad, frames, queued}
-use Rattle.rules.specs.Gateway.{roundOf, capacityOf, throughSlot, gatewayWait, gatewayLoad, bytes}
+use Rattle.rules.specs.Gateway.{throughSlot, gatewayWait, gatewayLoad, bytes}
 use Rattle.rules.proofs.Sums.{overStronger-monotone, sum-of-parts-small}
 use Rattle.rules.proofs.Parts.{ceiling-rises, work-fair, frames-fair, queued-fair, bytes-fair}
 

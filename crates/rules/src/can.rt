@@ -1,4 +1,3 @@
-ghost use mathlib.Core.Path.{_≡_};
 ghost use Rattle.rules.specs.Can.{canAdmits, canWait, canLoad, frames, queued};
 use crate::interference::Blocking;
 use crate::interference::Contribution;

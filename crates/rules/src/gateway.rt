@@ -1,5 +1,3 @@
-ghost use mathlib.Core.Path.{_≡_};
-ghost use Prim.Native.Nat.{ℕ};
 ghost use Rattle.rules.specs.Gateway.{gatewayAdmits, gatewayWait, gatewayLoad, bytes};
 use crate::interference::Contribution;
 use crate::interference::arrivals;

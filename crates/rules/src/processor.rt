@@ -1,4 +1,3 @@
-ghost use mathlib.Core.Path.{_≡_};
 ghost use Rattle.rules.specs.Processor.{processorAdmits, processorWait, work as workOf};
 use crate::interference::Blocking;
 use crate::interference::Contribution;

@@ -1,4 +1,3 @@
-ghost use mathlib.Core.Path.{_≡_};
 ghost use Rattle.rules.specs.Table.{tableAdmits};
 use crate::stations::Stations;
 use model::item::Item;

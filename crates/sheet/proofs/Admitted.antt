@@ -1,11 +1,11 @@
 -- Tables after an entry, an arc and a change: each holds a fresh state.
 use mathlib.Core.Path.{_≡_, sym, ap, subst, _∙_}
 use mathlib.Core.List.{List, [], _∷_, _++_}
-use mathlib.Core.Bool.{Bool, false}
+use mathlib.Core.Bool.{false}
 use mathlib.Core.Logic.{⊎-elim}
 use Prim.Native.Nat.{ℕ, _≤_, _<_, _+_}
 use native.Mathlib.Omega.{arith}
-use lib.ListN.{length, getD, set, take, replicate}
+use lib.ListN.{length, set, take, replicate}
 use lib.Seq.{take-set-lt}
 use Rattle.std.proofs.shelf.Lists.{take-more-set, take-replicate, length-push, length-set, length-replicate, getD-append-left, getD-push}
 use Rattle.std.proofs.shelf.Tests.{cases-lt}
@@ -19,7 +19,7 @@ use Rattle.promise.proofs.Invariant.{Sound, inv-start, handed}
 use Rattle.promise.proofs.Whole.{sound-push, sound-set}
 use Rattle.sheet.specs.declared.table.Table.{Table}
 use Rattle.sheet.specs.Tables.{stateOf, Linked, Fit}
-use Rattle.sheet.proofs.Tables.{items-count, arcs-count, sound-of}
+use Rattle.sheet.proofs.Tables.{items-count, sound-of}
 
 abbrev holding : List Item → List Arc → List Times → State
 holding xs arcs ts = record { items = xs; arcs = arcs; times = ts; broken = false }

@@ -4,7 +4,7 @@ use mathlib.Core.List.{List}
 use mathlib.Core.Bool.{true}
 use Prim.Native.Nat.{ℕ, _≤_, _<_}
 use native.Mathlib.Omega.{arith}
-use lib.ListN.{length, getD, set, take}
+use lib.ListN.{length, getD, set}
 use lib.Seq.{take-set-lt}
 use Rattle.std.proofs.shelf.Lists.{length-set}
 use Rattle.model.specs.declared.arc.Arc.{Arc}

@@ -1,5 +1,5 @@
 -- The clauses of a run as equations.
-use mathlib.Core.Path.{_≡_, refl, sym, ap, subst, _∙_}
+use mathlib.Core.Path.{_≡_, refl, sym, ap, _∙_}
 use mathlib.Core.Logic.{_⊎_, inl, inr}
 use Prim.Native.Nat.{ℕ, zero, suc, _≤_, _<_, _+_}
 use native.Mathlib.Omega.{arith}
@@ -13,7 +13,7 @@ use Rattle.promise.specs.declared.outcome.Ending.{Ending}
 use Rattle.promise.specs.declared.outcome.Ending.the-variants.{Settled, Spent, Broken}
 use Rattle.promise.specs.State.{State}
 use Rattle.promise.specs.Steps.{by, written, brokenOff, outcome, found, stepped}
-use Rattle.promise.specs.Runs.{Ran, ran, next, run-from}
+use Rattle.promise.specs.Runs.{ran, next, run-from}
 use Rattle.promise.proofs.Judged.{by-cases}
 
 pub settled-is : (wait : Reckoning) (f : ℕ) (s : State) (i q t r : ℕ) → length (s .items) ≤ q → run-from wait f s i q t r ≡ ran s Settled t r

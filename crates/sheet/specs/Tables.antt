@@ -1,7 +1,7 @@
 -- The state that a sheet's table holds.
 use mathlib.Core.Path.{_≡_}
 use mathlib.Core.List.{List}
-use Prim.Native.Nat.{ℕ, _<_, _≤_}
+use Prim.Native.Nat.{ℕ, _<_}
 use lib.ListN.{length, getD, take}
 use Rattle.model.specs.declared.arc.Arc.{Arc}
 use Rattle.model.specs.declared.item.Item.{Item}

@@ -6,7 +6,7 @@ ghost use lib.Dec.{eqb};
 ghost use lib.ListN.{length, set};
 ghost use Rattle.model.specs.Items.{Valid};
 ghost use Rattle.promise.specs.State.{meaning, fresh};
-ghost use Rattle.promise.specs.Calls.{Call, rivals, isUnused, isNewArc, keepsFields, joined, entryAsk, entryAnswer, arcAsk, changeAsk};
+ghost use Rattle.promise.specs.Calls.{Call, rivals, isUnused, isNewArc, keepsFields, entryAsk, entryAnswer, arcAsk, changeAsk};
 ghost use Rattle.promise.specs.Promise.{Leaves};
 ghost use Rattle.sheet.specs.Tables.{stateOf, Fit};
 use crate::sheet::Sheet;

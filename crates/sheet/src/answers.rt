@@ -1,6 +1,6 @@
 ghost use mathlib.Core.Path.{_≡_};
 ghost use mathlib.Core.Bool.{not};
-ghost use Prim.Native.Nat.{ℕ, _<_, _≤_};
+ghost use Prim.Native.Nat.{ℕ, _-_, _<_, _≤_};
 ghost use lib.ListN.{length, getD, drop};
 ghost use Rattle.std.specs.Options.{Cases as BySome};
 ghost use Rattle.promise.specs.State.{meaning, itemAt};
@@ -37,6 +37,13 @@ fn larger(bound: Option<QueueBound>, load: u64, item: usize) -> Option<QueueBoun
             }
         }
     }
+}
+
+/// How much late and wait of an item may come to.
+fn slack(item: &Item) -> u32
+    ensures { λ r. ⌜ r ≡ now (item .entry) .deadline - now (item .entry) .duration ⌝ }
+{
+    item.deadline.saturating_sub(item.duration)
 }
 
 fn is_quiet(became: Became) -> bool
@@ -187,7 +194,7 @@ impl<R: Rule> Sheet<R> {
         let items = self.table.items();
         let mut room: u64 = 0;
         for item in items {
-            room += item.deadline.saturating_sub(item.duration) as u64;
+            room += slack(item) as u64;
         }
         (room + 1) * items.len() as u64
     }

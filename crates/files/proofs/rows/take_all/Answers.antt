@@ -1,7 +1,7 @@
 use native.Mathlib.Omega.{arith}
 use mathlib.Core.Path.{_≡_, sym, _∙_}
 use mathlib.Core.Bool.{true}
-use Prim.Native.Nat.{_+_, _≤_, _<_}
+use Prim.Native.Nat.{_≤_, _<_}
 use lib.Dec.{leb}
 use lib.ListN.{length, drop}
 use Rattle.std.proofs.shelf.Lists.{take-rest, length-drop, drop-drop, drop-all}

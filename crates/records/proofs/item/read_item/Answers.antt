@@ -1,14 +1,12 @@
 use native.Mathlib.Omega.{arith}
 use mathlib.Core.Path.{_≡_, refl}
-use mathlib.Core.Bool.{Bool, true, false, cond, _&&_}
+use mathlib.Core.Bool.{true, _&&_}
 use mathlib.Core.List.{List}
 use Prim.Native.Nat.{ℕ, _≤_}
 use lib.Dec.{leb}
-use lib.ListN.{length, drop}
-use Rattle.std.specs.declared.result.Result.the-variants.{Ok, Err}
+use lib.ListN.{length}
 use Rattle.std.proofs.shelf.Lists.{take-rest}
 use Rattle.std.proofs.shelf.Tests.{and-from, le-leb}
-use Rattle.records.specs.declared.fault.Refusal.the-variants.{BadName}
 use Rattle.records.proofs.item.read_item.Needs as need
 
 right-length : (bs : List ℕ) → 27 ≤ length bs → length bs ≤ 42 → (leb 27 (length bs) && leb (length bs) 42) ≡ true

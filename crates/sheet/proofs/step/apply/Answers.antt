@@ -1,7 +1,5 @@
-use mathlib.Core.Path.{_≡_, refl, sym, subst}
-use Rattle.promise.specs.Steps.{by, written, brokenOff}
-use Rattle.promise.specs.declared.outcome.Became.the-variants.{Raised, Quiet, Broke}
-use Rattle.sheet.specs.Tables.{stateOf}
+use mathlib.Core.Path.{refl}
+use Rattle.promise.specs.declared.outcome.Became.the-variants.{Raised, Quiet}
 use Rattle.sheet.proofs.Stepped.{Same, duration-small, judged-is, told-of, written-is, written-fit, broken-is, broken-fit}
 use Rattle.sheet.proofs.step.apply.Needs as need
 

@@ -1,7 +1,4 @@
 use borrow.Author.Needs.{needs}
-use mathlib.Core.Path.{_≡_, sym, ap, _∙_}
-use native.Mathlib.Omega.{arith}
-use lib.ListN.{length}
 use Rattle.sheet.proofs.BoundTo.{there-yes, there-no}
 use Rattle.sheet.proofs.Tables.{fit-of, handed-by}
 use Rattle.sheet.proofs.sheet.Sheet.bound.Needs as need

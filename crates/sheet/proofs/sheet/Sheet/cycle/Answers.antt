@@ -1,17 +1,16 @@
 use mathlib.Core.Path.{_≡_, refl, sym, ap, subst, _∙_}
 use mathlib.Core.Bool.{cond}
 use mathlib.Core.Logic.{_⊎_, inl, inr}
-use Prim.Native.Nat.{ℕ, suc, _≤_, _<_, _+_, _-_}
+use Prim.Native.Nat.{_+_, _-_}
 use native.Mathlib.Omega.{arith}
 use lib.Dec.{ltb}
 use lib.ListN.{length}
 use Rattle.std.proofs.shelf.Tests.{leb-true, leb-false}
 use Rattle.model.specs.Laws.{Reckoning}
-use Rattle.promise.specs.declared.outcome.Became.{Became}
-use Rattle.promise.specs.declared.outcome.Became.the-variants.{Raised, Quiet, Broke}
+use Rattle.promise.specs.declared.outcome.Became.the-variants.{Raised, Quiet}
 use Rattle.promise.specs.State.{State}
 use Rattle.promise.specs.Steps.{outcome, stepped}
-use Rattle.promise.specs.Runs.{Ran, run-from, run-of, next}
+use Rattle.promise.specs.Runs.{Ran, run-from, next}
 use Rattle.sheet.specs.Tables.{stateOf}
 use Rattle.sheet.proofs.Tables.{fit-of, items-count}
 use Rattle.sheet.proofs.Unroll.{settled-is, spent-is, step-items, again, broke-is}

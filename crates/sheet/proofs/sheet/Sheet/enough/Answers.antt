@@ -1,9 +1,9 @@
 use mathlib.Core.Path.{_≡_, ap, _∙_}
 use mathlib.Core.List.{List}
-use Prim.Native.Nat.{ℕ, _≤_, _<_, _+_, _-_, _*_}
+use Prim.Native.Nat.{ℕ, _≤_, _+_, _-_, _*_}
 use native.Mathlib.Omega.{arith}
 use native.Mathlib.Nat.{mul-le-mul}
-use lib.ListN.{length, take}
+use lib.ListN.{length}
 use Rattle.std.specs.shelf.Lists.{sumBy}
 use Rattle.std.proofs.shelf.Lists.{take-all}
 use Rattle.std.proofs.shelf.Sums.{sumBy-more}
@@ -25,7 +25,7 @@ add-room g c =
 pub loop-item-again : need.loop-item-again
 loop-item-again g c =
     let more = sumBy-more (λ (x : Item). x .deadline - x .duration) (c .items-items .result .now) (c .loop-item .item-index) noItem (c .loop-item-test .taken) in
-    (omega (arith, more, c .saturating-sub .ensures, c .loop-item .inv .0), omega (arith, c .loop-item .inv .1))
+    (omega (arith, more, c .slack .ensures, c .loop-item .inv .0), omega (arith, c .loop-item .inv .1))
 
 pub add-result : need.add-result
 add-result g c =

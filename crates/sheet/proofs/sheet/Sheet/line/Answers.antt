@@ -1,8 +1,8 @@
-use mathlib.Core.Path.{_≡_, sym, ap, _∙_}
+use mathlib.Core.Path.{sym, ap, _∙_}
 use Prim.Native.Nat.{ℕ}
 use Rattle.model.specs.declared.times.Times.{Times}
 use Rattle.promise.specs.declared.outcome.Line.{Line}
-use Rattle.promise.specs.State.{State, timesAt}
+use Rattle.promise.specs.State.{State}
 use Rattle.promise.specs.Calls.{lineAt}
 use Rattle.sheet.specs.Tables.{stateOf}
 use Rattle.sheet.proofs.Tables.{times-is}

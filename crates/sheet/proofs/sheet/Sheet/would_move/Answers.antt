@@ -1,4 +1,4 @@
-use mathlib.Core.Path.{_≡_, ap, _∙_}
+use mathlib.Core.Path.{ap, _∙_}
 use mathlib.Core.Bool.{not}
 use Rattle.promise.specs.State.{State, itemAt, timesAt}
 use Rattle.promise.specs.Steps.{judge, isQuiet}
