@@ -1,36 +1,36 @@
 ghost use mathlib.Core.Path.{_≡_};
 ghost use Rattle.promise.specs.Refusals.{numberOf};
 
-/// Why a call was turned away: the first question that was answered with no.
+/// Why a call was refused: the first condition that does not hold.
 #[derive(Clone, Copy, Debug, PartialEq, Eq)]
 pub enum Refusal {
-    /// Are there fewer than 64 items?
+    /// 64 items are entered already.
     ManyItems,
-    /// Is the period 1 to 1,000,000?
+    /// The period is 0 or above 1,000,000.
     BadPeriod,
-    /// Is 1 ≤ duration ≤ deadline ≤ period?
+    /// The duration is 0 or above the deadline, or the deadline above the period.
     BadLimits,
-    /// Is the mark 0 or 1, held ≤ duration and offset < period?
+    /// The mark is above 1, held above the duration, or the offset not within the period.
     BadStart,
-    /// Is the priority unused by others at this class and station?
+    /// Another item of the class and station has this priority.
     TakenPriority,
-    /// Does the rule admit the record?
+    /// The rule does not take the record.
     NotAdmitted,
-    /// Is there an item with this number?
+    /// No item has this number.
     NoItem,
-    /// Are class, station, mark and period the old ones?
+    /// A change would alter class, station, mark or period.
     FixedFields,
-    /// Is the first number the smaller, and are the periods equal?
+    /// The arc does not lead to a larger number, or the two periods differ.
     BadArc,
-    /// Is the arc new?
+    /// The arc is there already.
     KnownArc,
-    /// Are there fewer than 128 arcs?
+    /// 128 arcs are there already.
     ManyArcs,
-    /// Is the sheet unbroken?
+    /// The sheet is broken.
     SheetBroken,
-    /// Is the sheet settled?
+    /// A step on some item would not be quiet.
     NotSettled,
-    /// Has the table at least as many records as there are items?
+    /// The caller's table has fewer records than there are items.
     ShortTable,
 }
 

@@ -11,7 +11,6 @@ use Rattle.std.proofs.shelf.Lists.{take-more-set, take-replicate, length-push, 
 use Rattle.std.proofs.shelf.Tests.{cases-lt}
 use Rattle.model.specs.declared.arc.Arc.{Arc}
 use Rattle.model.specs.declared.item.Item.{Item}
-use Rattle.model.specs.declared.times.Times.{Times}
 use Rattle.model.specs.Items.{noArc, noTimes, Valid}
 use Rattle.model.specs.Laws.{Handed}
 use Rattle.promise.specs.State.{State, fresh}
@@ -20,9 +19,6 @@ use Rattle.promise.proofs.Whole.{sound-push, sound-set}
 use Rattle.sheet.specs.declared.table.Table.{Table}
 use Rattle.sheet.specs.Tables.{stateOf, Linked, Fit}
 use Rattle.sheet.proofs.Tables.{items-count, sound-of}
-
-abbrev holding : List Item → List Arc → List Times → State
-holding xs arcs ts = record { items = xs; arcs = arcs; times = ts; broken = false }
 
 -- all times set back, and unbroken
 pub record Reset (t : Table) : Type 0 where

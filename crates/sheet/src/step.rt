@@ -92,6 +92,19 @@ impl<R: Rule> Sheet<R> {
         Times { late, wait }
     }
 
+    /// Judges the times that a step on item `i` found, and writes them or breaks the sheet.
+    fn put(&mut self, i: usize, new: Times) -> Became
+        requires inside { ⌜ i < now self .table .count ⌝ }
+        requires late { ⌜ new .late ≤ 3000000 ⌝ }
+        requires wait { ⌜ new .wait ≤ 1000001 ⌝ }
+        ensures answer { λ r. ⌜ r ≡ judgeOf (itemAt (stateOf (now (self .entry) .table)) i) (timesAt (stateOf (now (self .entry) .table)) i) new ⌝ }
+        ensures state { λ r. ⌜ stateOf (now (self .exit) .table) ≡ by r (written (stateOf (now (self .entry) .table)) i new) (written (stateOf (now (self .entry) .table)) i new) (λ c. brokenOff (stateOf (now (self .entry) .table))) ⌝ }
+        ensures rule { λ _. ⌜ now (self .exit) .rule ≡ now (self .entry) .rule ⌝ }
+        ensures count { λ _. ⌜ now (self .exit) .table .count ≡ now (self .entry) .table .count ⌝ }
+    {
+        apply(&mut self.table, i, new)
+    }
+
     /// A step on item `i`, with no question put.
     pub(crate) fn turn(&mut self, i: usize) -> Became
         requires inside { ⌜ i < now self .table .count ⌝ }
@@ -101,7 +114,7 @@ impl<R: Rule> Sheet<R> {
         ensures count { λ _. ⌜ now (self .exit) .table .count ≡ now (self .entry) .table .count ⌝ }
     {
         let new = self.find(i);
-        apply(&mut self.table, i, new)
+        self.put(i, new)
     }
 
     /// The end of item `i` by the times that the sheet holds.
