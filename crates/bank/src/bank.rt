@@ -6,7 +6,7 @@ use model::rule::ClassRule;
 use model::rule::Rule;
 use model::times::Times;
 
-/// The empty bank: it admits nothing, and gives wait 0 and load 0.
+/// The bank with no class: no record is admitted, and every wait and load is 0.
 #[derive(Drop)]
 pub struct EmptyBank;
 
@@ -30,7 +30,7 @@ pub impl Rule for EmptyBank as EmptyRule {
     }
 }
 
-/// A bank: items of the front's class go to the front, the others behind.
+/// Two rules as one: the class of an item decides which of them answers.
 #[derive(Drop)]
 pub struct Bank<F, B> {
     pub front: F,

@@ -24,15 +24,15 @@ endOf x t = t .late + t .wait + x .duration
 abbrev pub jitterOf : Item → Times → ℕ
 jitterOf x t = t .late - x .offset
 
--- is the period 1 to 1,000,000?
+-- the period lies between 1 and 1,000,000
 abbrev pub hasPeriod : Item → Bool
 hasPeriod x = leb 1 (x .period) && leb (x .period) 1000000
 
--- is 1 ≤ duration ≤ deadline ≤ period?
+-- duration, deadline and period follow each other in size, from 1 on
 abbrev pub hasLimits : Item → Bool
 hasLimits x = leb 1 (x .duration) && leb (x .duration) (x .deadline) && leb (x .deadline) (x .period)
 
--- is the mark 0 or 1, held ≤ duration and offset < period?
+-- the mark is one of the two, held is within the duration, and the offset within the period
 abbrev pub hasStart : Item → Bool
 hasStart x = leb (x .mark) 1 && leb (x .held) (x .duration) && ltb (x .offset) (x .period)
 
@@ -44,7 +44,7 @@ pub record Bytes (x : Item) : Type 0 where
   pub queue-fits : x .queue ≤ 255
   pub size-fits : x .size ≤ 255
 
--- a valid record: the three questions above are answered with yes
+-- a valid record: all three hold
 pub record Valid (x : Item) : Type 0 where
   pub period-low : 1 ≤ x .period
   pub period-high : x .period ≤ 1000000

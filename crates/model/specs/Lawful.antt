@@ -18,20 +18,20 @@ waitAt ts i = getD ts i noTimes .wait
 abbrev pub endAt : List Item → List Times → ℕ → ℕ
 endAt xs ts i = endOf (getD xs i noItem) (getD ts i noTimes)
 
--- the five things that hold for an item i of a lawful set
+-- the five conditions on an item i of a lawful set
 pub record LawfulAt (wait : Reckoning) (xs : List Item) (arcs : List Arc) (ts : List Times) (i : ℕ) : Type 0 where
-  -- late is at least its offset
+  -- it is not released before its offset
   pub released : getD xs i noItem .offset ≤ lateAt ts i
-  -- late is at least the end of each item with an arc to it
+  -- nor before an item with an arc to it has ended
   pub supplied : (k : ℕ) → k < length arcs → getD arcs k noArc .to ≡ i → endAt xs ts (getD arcs k noArc .from) ≤ lateAt ts i
-  -- wait is at least the wait that the rule gives for this set
+  -- it waits no shorter than the rule says of this same set
   pub waited : wait xs ts i ≤ waitAt ts i
-  -- end is at most its deadline
+  -- it ends by its deadline
   pub in-time : endAt xs ts i ≤ getD xs i noItem .deadline
-  -- with mark 1, late is at most its offset
+  -- with mark 1 it is not released after its offset either
   pub exact : getD xs i noItem .mark ≡ 1 → lateAt ts i ≤ getD xs i noItem .offset
 
--- a lawful set: one pair of times for every item, and the five things for each
+-- a lawful set: one pair of times for each item, under the five conditions
 pub record Lawful (wait : Reckoning) (xs : List Item) (arcs : List Arc) (ts : List Times) : Type 0 where
   pub paired : length ts ≡ length xs
   pub each : (i : ℕ) → i < length xs → LawfulAt wait xs arcs ts i

@@ -24,7 +24,7 @@ pub record Below (s t : List Times) : Type 0 where
 abbrev pub Reckoning : Type 0
 Reckoning = List Item → List Times → ℕ → ℕ
 
--- raising late times or waits never lowers it
+-- a set of times with nothing smaller gives nothing smaller
 abbrev pub Monotone : Reckoning → Type 0
 Monotone f = (items : List Item) (s t : List Times) (i : ℕ) → Handed items s → Handed items t → Below s t → i < length items → f items s i ≤ f items t i
 

@@ -2,46 +2,47 @@ ghost use mathlib.Core.Path.{_≡_};
 ghost use mathlib.Core.Bool.{true};
 ghost use Rattle.model.specs.Items.{hasPeriod, hasLimits, hasStart, Valid};
 
-/// An item: a process, or one hop of a message. Times are whole ticks of 1 µs.
+/// An item is one activity of the machine: a process, or a message on one hop. All its times are
+/// counted in ticks of 1 µs.
 #[derive(Clone, Copy)]
 pub struct Item {
-    /// Which kind of resource it uses; a class rule has a fixed class number.
+    /// Which kind of resource it uses.
     pub class: u8,
     /// Which resource of that class.
     pub station: u8,
-    /// 1: it starts exactly at its offset; 0: perhaps later.
+    /// 1: released at its offset and at no other time; 0: at its offset or later.
     pub mark: u8,
-    /// The smaller number is the stronger.
+    /// Smaller numbers are stronger.
     pub priority: u8,
-    /// The sending node's output queue.
+    /// Into which output queue of its node a message is put.
     pub queue: u8,
     /// In bytes.
     pub size: u8,
     pub period: u32,
     pub duration: u32,
-    /// The held stretch: a process's longest time without interruption.
+    /// The held stretch: for how long, at worst, a running process cannot be interrupted.
     pub held: u32,
-    /// The earliest release, counted from the start of the period.
+    /// When the item can be released at the earliest, from the start of its period.
     pub offset: u32,
     pub deadline: u32,
 }
 
 impl Item {
-    /// Is the period 1 to 1,000,000?
+    /// Does the period lie between 1 and 1,000,000?
     pub fn has_period(&self) -> bool
         ensures { λ r. ⌜ r ≡ hasPeriod (now (self .entry)) ⌝ }
     {
         1 <= self.period && self.period <= 1_000_000
     }
 
-    /// Is 1 ≤ duration ≤ deadline ≤ period?
+    /// Do duration, deadline and period follow each other in size, from 1 on?
     pub fn has_limits(&self) -> bool
         ensures { λ r. ⌜ r ≡ hasLimits (now (self .entry)) ⌝ }
     {
         1 <= self.duration && self.duration <= self.deadline && self.deadline <= self.period
     }
 
-    /// Is the mark 0 or 1, held ≤ duration and offset < period?
+    /// Is the mark one of the two, held within the duration, and the offset within the period?
     pub fn has_start(&self) -> bool
         ensures { λ r. ⌜ r ≡ hasStart (now (self .entry)) ⌝ }
     {

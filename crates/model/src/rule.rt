@@ -9,11 +9,11 @@ ghost use Rattle.model.specs.Laws.{Handed, Law};
 use crate::item::Item;
 use crate::times::Times;
 
-/// A rule says how items wait. Its meaning is three functions: which records it admits, from the
-/// record alone, and the wait and the queue load of item `i`, from all items and a set of times.
+/// How items wait. Three ghost functions say what a rule means: `admits` looks at one record,
+/// `wait` and `load` at all items and a set of times, for the item numbered `i`.
 ///
-/// `wait` and `load` are asked only of what a rule may be handed: at most 64 valid records, with
-/// one pair of times up to 1,000,000 for each. On these its law holds, and no more is asked of it.
+/// The two methods that take lists require that these are `Handed`: no more than 64 valid records,
+/// each with a pair of times that do not pass 1,000,000. The law is owed for such lists only.
 pub trait Rule {
     ghost admits: { Self → Item → Bool };
 
@@ -26,7 +26,7 @@ pub trait Rule {
     fn admits(&self, item: &Item) -> bool
         ensures { λ r. ⌜ r ≡ admits (now (self .entry)) (now (item .entry)) ⌝ };
 
-    /// In ticks; 1,000,001 stands for any larger number.
+    /// In ticks. Everything above 1,000,000 is answered as 1,000,001.
     fn wait(&self, items: &[Item], times: &[Times], i: usize) -> u32
         requires handed { ⌜ Handed (now items) (now times) ⌝ }
         requires inside { ⌜ i < length (now items) ⌝ }
@@ -39,7 +39,7 @@ pub trait Rule {
         ensures { λ r. ⌜ r ≡ load (now (self .entry)) (now (items .entry)) (now (times .entry)) i ⌝ };
 }
 
-/// A class rule is a rule that also has a fixed class number.
+/// A rule for the items of one class, whose number is a constant.
 pub trait ClassRule: Rule {
     ghost number: { ℕ };
 

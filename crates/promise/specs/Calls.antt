@@ -41,18 +41,18 @@ noneTo f (suc n) = noneTo f n && not (f n)
 abbrev pub rivals : Item → Item → Bool
 rivals x y = eqb (x .class) (y .class) && eqb (x .station) (y .station) && eqb (x .priority) (y .priority)
 
--- is the priority unused by others, where x is or becomes number i?
+-- no item but number i, which x is or becomes, has its priority there
 abbrev pub isUnused : List Item → ℕ → Item → Bool
 isUnused xs i x = noneTo (λ j. not (eqb j i) && rivals x (getD xs j noItem)) (length xs)
 
 abbrev pub isNewArc : List Arc → ℕ → ℕ → Bool
 isNewArc arcs p i = noneTo (λ k. eqb (getD arcs k noArc .from) p && eqb (getD arcs k noArc .to) i) (length arcs)
 
--- are class, station, mark and period the old ones?
+-- a change that leaves class, station, mark and period alone
 abbrev pub keepsFields : Item → Item → Bool
 keepsFields old x = eqb (old .class) (x .class) && eqb (old .station) (x .station) && eqb (old .mark) (x .mark) && eqb (old .period) (x .period)
 
--- would a step on each item be quiet?
+-- no step on any item would be anything but quiet
 abbrev pub allQuiet : Meaning → State → Bool
 allQuiet m s = noneTo (λ i. not (isQuiet (outcome (m .wait) s i))) (length (s .items))
 
@@ -93,7 +93,7 @@ stepAsk s i =
     (ask (not (s .broken)) SheetBroken
     (Ok tt))
 
--- what became of the item, and its end afterwards
+-- the outcome, and where the item ends by the times then held
 abbrev pub stepAnswer : Meaning → State → ℕ → Result (Became × ℕ) Refusal
 stepAnswer m s i = then (stepAsk s i) (Ok (outcome (m .wait) s i, endAt (s .items) (stepped (m .wait) s i .times) i))
 
@@ -120,7 +120,7 @@ lineAt s i = record { number = i; late = lateAt (s .times) i; wait = waitAt (s .
 abbrev pub noLine : Line
 noLine = record { number = 0; late = 0; wait = 0; end = 0 }
 
--- what times writes: a line for each item into the first n records; the rest keeps its contents
+-- what times writes: one line an item from the front; behind the last line nothing is touched
 pub record Filled (s : State) (before after : List Line) : Type 0 where
   pub lines : (i : ℕ) → i < length (s .items) → getD after i noLine ≡ lineAt s i
   pub rest : drop (length (s .items)) after ≡ drop (length (s .items)) before
@@ -139,7 +139,7 @@ abbrev pub larger : Option QueueBound → ℕ → ℕ → Option QueueBound
 larger None load i = Some (record { bytes = load; item = i })
 larger (Some b) load i = cond (ltb (b .bytes) load) (Some (record { bytes = load; item = i })) (Some b)
 
--- the largest load among the items below n that are there, and the smallest number that reaches it
+-- of the items below n that are there: the largest load, and the first item that has it
 abbrev pub boundTo : (Item → Bool) → (ℕ → ℕ) → List Item → ℕ → Option QueueBound
 boundTo there load xs zero = None
 boundTo there load xs (suc n) = cond (there (getD xs n noItem)) (larger (boundTo there load xs n) (load n) n) (boundTo there load xs n)

@@ -22,7 +22,7 @@ use Rattle.promise.specs.State.{State, Meaning, empty}
 use Rattle.promise.specs.Runs.{run-of}
 use Rattle.promise.specs.Calls.{Call, entry, arc, change, step, run, times, queueBound, isThere, allQuiet, stepAnswer, runAnswer, timesAnswer, boundAnswer, AllMade, after, afterAll}
 
--- the lawful sets of a sheet: those for its items, arcs and rule at that moment
+-- the lawful sets of a sheet as it stands
 abbrev pub LawfulFor : Meaning → State → List Times → Type 0
 LawfulFor m s ts = Lawful (m .wait) (s .items) (s .arcs) ts
 
@@ -92,16 +92,16 @@ AnswerKept m s (queueBound class station queue) = (b : Option QueueBound) → bo
 
 -- the promise of one state
 pub record Kept (m : Meaning) (s : State) : Type 0 where
-  -- no time that the sheet holds exceeds the same one in any lawful set
+  -- the sheet's times are below every lawful set
   pub late-low : (ts : List Times) → LawfulFor m s ts → (i : ℕ) → lateAt (s .times) i ≤ lateAt ts i
   pub wait-low : (ts : List Times) → LawfulFor m s ts → (i : ℕ) → waitAt (s .times) i ≤ waitAt ts i
   pub end-low : (ts : List Times) → LawfulFor m s ts → (i : ℕ) → endAt (s .items) (s .times) i ≤ endAt (s .items) ts i
-  -- both questions get yes exactly when its times are lawful
+  -- settled and lawful are the same
   pub lawful : IsSettled m s → LawfulFor m s (s .times)
   pub settled : LawfulFor m s (s .times) → IsSettled m s
   -- and then no lawful set has a smaller queue bound anywhere
   pub least-bounds : IsSettled m s → (ts : List Times) → LawfulFor m s ts → (class station queue : ℕ) → boundOf m s (s .times) class station queue ≤ boundOf m s ts class station queue
-  -- a broken sheet has no lawful set
+  -- broken: nothing is lawful
   pub hopeless : s .broken ≡ true → Hopeless m s
   -- what the next call would answer
   pub answers : (c : Call) → AnswerKept m s c
@@ -111,7 +111,7 @@ pub record Kept (m : Meaning) (s : State) : Type 0 where
 abbrev pub Agree : Meaning → State → State → Type 0
 Agree m s t = s .items ≡ t .items → s .arcs ≡ t .arcs → IsSettled m s → (t .broken ≡ false) × (IsSettled m t → s .times ≡ t .times)
 
--- the promise: after any list of calls, granted or refused, on a sheet made empty over a rule of this meaning
+-- the promise, of every state that calls lead to from the empty sheet
 pub record Promised (m : Meaning) : Type 0 where
   pub kept : (calls : List Call) → AllMade calls → Kept m (afterAll m empty calls)
   pub agree : (calls others : List Call) → AllMade calls → AllMade others → Agree m (afterAll m empty calls) (afterAll m empty others)

@@ -1,4 +1,4 @@
--- What a run does: it steps items 0, 1, 2 and on, again from 0 after the last.
+-- What a run does: step after step in the order of the numbers, round and round.
 use mathlib.Core.Bool.{cond}
 use Prim.Native.Nat.{ℕ, zero, suc, _+_}
 use lib.Dec.{leb, ltb}

@@ -25,8 +25,7 @@ latest xs ts i (a ∷ arcs) m = latest xs ts i arcs (cond (eqb (a .to) i) (max m
 abbrev pub found : Reckoning → State → ℕ → Times
 found wait s i = record { late = latest (s .items) (s .times) i (s .arcs) (itemAt s i .offset); wait = wait (s .items) (s .times) i }
 
--- mark 1 with new late above the offset breaks by input, otherwise a new end above the deadline by limit;
--- otherwise it is raised if a time grew, and else quiet
+-- a late release of an item with mark 1 comes before an end that is too late, and both before raised or quiet
 abbrev pub judge : Item → Times → Times → Became
 judge x old new =
     cond (eqb (x .mark) 1 && ltb (x .offset) (new .late)) (Broke Input)
@@ -48,7 +47,7 @@ by Raised x y z = x
 by Quiet x y z = y
 by (Broke c) x y z = z c
 
--- the state after a step: a break writes no time, otherwise both are written
+-- the state after a step
 abbrev pub stepped : Reckoning → State → ℕ → State
 stepped wait s i = by (outcome wait s i) (written s i (found wait s i)) (written s i (found wait s i)) (λ c. brokenOff s)
 

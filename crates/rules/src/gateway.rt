@@ -21,8 +21,8 @@ pub struct Slot {
     pub capacity: u16,
 }
 
-/// Class 4, gateway: a queue by priority into one slot of each round. A message may be cut at a
-/// frame's end.
+/// Class 4, gateway: messages queue by priority for one slot of the round, and may be split
+/// between two frames.
 #[derive(Drop)]
 pub struct Gateway {
     pub stations: Stations<Slot>,

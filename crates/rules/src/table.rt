@@ -5,8 +5,7 @@ use model::rule::ClassRule;
 use model::rule::Rule;
 use model::times::Times;
 
-/// Class 1, table: starts that are fixed in advance, and never overlap. Such an item waits for
-/// nothing and queues nothing.
+/// Class 1, table: the start is fixed by a table, so there is nothing to wait for and no queue.
 #[derive(Drop)]
 pub struct Table {
     pub stations: Stations<()>,

@@ -26,7 +26,7 @@ fn clashes(number: usize, item: &Item, j: usize, other: &Item) -> bool
         && item.priority == other.priority
 }
 
-/// Is the priority unused by others, where the item is or becomes `number`?
+/// Does no item but `number`, which this one is or becomes, have its priority?
 fn is_unused(items: &[Item], number: usize, item: &Item) -> bool
     ensures { λ r. ⌜ r ≡ isUnused (now (items .entry)) number (now (item .entry)) ⌝ }
 {
@@ -57,7 +57,7 @@ fn is_new_arc(arcs: &[Arc], from: usize, to: usize) -> bool
     new
 }
 
-/// Are class, station, mark and period the old ones?
+/// Does the new record leave class, station, mark and period alone?
 fn keeps_fields(old: &Item, item: &Item) -> bool
     ensures { λ r. ⌜ r ≡ keepsFields (now (old .entry)) (now (item .entry)) ⌝ }
 {
@@ -178,8 +178,8 @@ impl<R: Rule> Sheet<R> {
         Ok(())
     }
 
-    /// Appends an item and gives its number. Accepted, it sets all times to 0 and makes the sheet
-    /// unbroken; refused, it touches nothing.
+    /// Puts an item behind the others and tells its number. All times are then 0 again, and the
+    /// sheet counts as unbroken. A refusal changes nothing.
     pub fn entry(&mut self, item: Item) -> Result<usize, Refusal>
         ensures answer { λ r. ⌜ r ≡ entryAnswer (meaning R·Rule (now (self .entry) .rule)) (stateOf (now (self .entry) .table)) item ⌝ }
         ensures leaves { λ _. ⌜ Leaves (meaning R·Rule (now (self .entry) .rule)) (stateOf (now (self .entry) .table)) (Call.entry item) (stateOf (now (self .exit) .table)) ⌝ }
@@ -193,7 +193,7 @@ impl<R: Rule> Sheet<R> {
         Ok(number)
     }
 
-    /// Adds an arc, with what an accepted entry does to the times.
+    /// Adds an arc, and starts the times over as an entry does.
     pub fn arc(&mut self, from: usize, to: usize) -> Result<(), Refusal>
         ensures answer { λ r. ⌜ r ≡ arcAsk (stateOf (now (self .entry) .table)) from to ⌝ }
         ensures leaves { λ _. ⌜ Leaves (meaning R·Rule (now (self .entry) .rule)) (stateOf (now (self .entry) .table)) (Call.arc from to) (stateOf (now (self .exit) .table)) ⌝ }
@@ -212,7 +212,7 @@ impl<R: Rule> Sheet<R> {
         Ok(())
     }
 
-    /// Replaces the record of an item, with what an accepted entry does to the times.
+    /// Exchanges the record of an item, and starts the times over as an entry does.
     pub fn change(&mut self, number: usize, item: Item) -> Result<(), Refusal>
         ensures answer { λ r. ⌜ r ≡ changeAsk (meaning R·Rule (now (self .entry) .rule)) (stateOf (now (self .entry) .table)) number item ⌝ }
         ensures leaves { λ _. ⌜ Leaves (meaning R·Rule (now (self .entry) .rule)) (stateOf (now (self .entry) .table)) (Call.change number item) (stateOf (now (self .exit) .table)) ⌝ }

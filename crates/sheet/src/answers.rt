@@ -67,7 +67,7 @@ impl<R: Rule> Sheet<R> {
         !is_quiet(became)
     }
 
-    /// Would a step on each item be quiet?
+    /// Is there no item on which a step would be anything but quiet?
     fn all_quiet(&self) -> bool
         ensures { λ r. ⌜ r ≡ allQuiet (meaning R·Rule (now (self .entry) .rule)) (stateOf (now (self .entry) .table)) ⌝ }
     {
@@ -133,8 +133,8 @@ impl<R: Rule> Sheet<R> {
         }
     }
 
-    /// Writes number, late, wait and end of each item into the first records of the caller's table.
-    /// The rest keeps its contents, and so does the whole table where the call is refused.
+    /// Writes a line for each item into the caller's table, from the front. Records behind the last
+    /// line stay as they are, and after a refusal all of them do.
     pub fn times(&self, table: &mut [Line]) -> Result<(), Refusal>
         ensures answer { λ r. ⌜ r ≡ timesAnswer (meaning R·Rule (now (self .entry) .rule)) (stateOf (now (self .entry) .table)) (length (now (table .entry))) ⌝ }
         ensures rows { λ r. ⌜ Rows (stateOf (now (self .entry) .table)) r (now (table .entry)) (now (table .exit)) ⌝ }
@@ -150,8 +150,8 @@ impl<R: Rule> Sheet<R> {
         Ok(())
     }
 
-    /// The largest load among the items of a class, station and queue, and the smallest item number
-    /// that reaches it, or nothing where there is no such item.
+    /// How many bytes the queue may hold, and the first item with that load; nothing where no item
+    /// uses the queue.
     pub fn queue_bound(
         &self,
         class: u8,

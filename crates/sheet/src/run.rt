@@ -31,8 +31,8 @@ fn next_item(item: usize, n: usize) -> usize
 }
 
 impl<R: Rule> Sheet<R> {
-    /// Steps items 0, 1, 2 and on, again from 0 after the last, until a break, until each of the
-    /// latest steps, one for every item, was quiet, or until the allowance is made.
+    /// Steps the items in the order of their numbers, round and round, until the sheet breaks, until
+    /// a whole round of steps in a row was quiet, or until no step is allowed any more.
     fn cycle(&mut self, allowance: u64) -> RunResult
         ensures answer { λ r. ⌜ r ≡ run-of (R·Rule .wait (now (self .entry) .rule)) (stateOf (now (self .entry) .table)) allowance .result ⌝ }
         ensures state { λ _. ⌜ stateOf (now (self .exit) .table) ≡ run-of (R·Rule .wait (now (self .entry) .rule)) (stateOf (now (self .entry) .table)) allowance .state ⌝ }
