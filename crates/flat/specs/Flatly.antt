@@ -1,4 +1,4 @@
--- Every item waits the same stretch, and queues its own bytes only.
+-- Every item waits the same stretch, and queues its own bytes only, at most 254 of them.
 use mathlib.Core.Bool.{Bool, not}
 use Prim.Native.Nat.{ℕ, min}
 use lib.Dec.{eqb}
@@ -9,7 +9,7 @@ use Rattle.model.specs.Laws.{Reckoning}
 use Rattle.promise.specs.State.{Meaning}
 
 abbrev pub flatAdmits : Item → Bool
-flatAdmits x = not (eqb (x .class) 9)
+flatAdmits x = not (eqb (x .size) 255)
 
 abbrev pub flatWait : ℕ → Reckoning
 flatWait stretch items times i = min stretch 1000001

@@ -3,7 +3,8 @@ use model::item::Item;
 use model::rule::Rule;
 use model::times::Times;
 
-/// Every item waits the same stretch, and queues its own bytes only. Class 9 is not admitted.
+/// Every item waits the same stretch, and queues its own bytes only. A record of 255 bytes is not
+/// admitted.
 #[derive(Clone, Copy)]
 pub struct Flat {
     pub stretch: u32,
@@ -17,7 +18,7 @@ pub impl Rule for Flat as FlatRule {
     ghost load = { λ _. flatLoad };
 
     fn admits(&self, item: &Item) -> bool {
-        item.class != 9
+        item.size != 255
     }
 
     fn wait(&self, _items: &[Item], _times: &[Times], _i: usize) -> u32 {

@@ -96,7 +96,7 @@ fn an_entry_is_questioned_in_order() -> Result<(), Fail> {
     )?;
     check_eq(
         sheet.entry(Item {
-            class: 9,
+            size: 255,
             ..item(1, 10)
         }),
         Err(Refusal::NotAdmitted),
@@ -183,6 +183,16 @@ fn a_change_is_questioned_in_order_and_sets_the_times_back() -> Result<(), Fail>
         Err(Refusal::BadStart),
     )?;
     check_eq(sheet.change(1, item(1, 20)), Err(Refusal::TakenPriority))?;
+    check_eq(
+        sheet.change(
+            1,
+            Item {
+                size: 255,
+                ..item(2, 20)
+            },
+        ),
+        Err(Refusal::NotAdmitted),
+    )?;
     check_eq(sheet.run(2), ran(Ending::Settled, 2, 0))?;
     check_eq(sheet.change(1, item(2, 30)), Ok(()))?;
     check_eq(sheet.run(4), ran(Ending::Settled, 4, 2))
