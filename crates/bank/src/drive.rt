@@ -27,7 +27,7 @@ pub fn may_hand(items: &[Item], times: &[Times]) -> bool
 
 /// The wait that the rule gives item `i`, or nothing where a rule may not be asked that.
 pub fn ask_wait<R: Rule>(rule: &R, items: &[Item], times: &[Times], i: usize) -> Option<u32>
-    ensures { λ r. ⌜ BySome r ((Handed (now (items .entry)) (now (times .entry)) × (i < length (now (items .entry)))) → ⊥) (λ wait. wait ≡ R·Rule .wait (now (rule .entry)) (now (items .entry)) (now (times .entry)) i) ⌝ }
+    ensures { λ r. ⌜ BySome r ((Handed (now (items .entry)) (now (times .entry)) × (i < length (now (items .entry)))) → ⊥) (λ wait. Handed (now (items .entry)) (now (times .entry)) × (i < length (now (items .entry))) × (wait ≡ R·Rule .wait (now (rule .entry)) (now (items .entry)) (now (times .entry)) i)) ⌝ }
 {
     if i < items.len() && may_hand(items, times) {
         Some(rule.wait(items, times, i))
@@ -38,7 +38,7 @@ pub fn ask_wait<R: Rule>(rule: &R, items: &[Item], times: &[Times], i: usize) ->
 
 /// The load that the rule gives item `i`, or nothing where a rule may not be asked that.
 pub fn ask_load<R: Rule>(rule: &R, items: &[Item], times: &[Times], i: usize) -> Option<u64>
-    ensures { λ r. ⌜ BySome r ((Handed (now (items .entry)) (now (times .entry)) × (i < length (now (items .entry)))) → ⊥) (λ load. load ≡ R·Rule .load (now (rule .entry)) (now (items .entry)) (now (times .entry)) i) ⌝ }
+    ensures { λ r. ⌜ BySome r ((Handed (now (items .entry)) (now (times .entry)) × (i < length (now (items .entry)))) → ⊥) (λ load. Handed (now (items .entry)) (now (times .entry)) × (i < length (now (items .entry))) × (load ≡ R·Rule .load (now (rule .entry)) (now (items .entry)) (now (times .entry)) i)) ⌝ }
 {
     if i < items.len() && may_hand(items, times) {
         Some(rule.load(items, times, i))

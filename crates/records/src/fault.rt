@@ -68,16 +68,23 @@ impl Refusal {
     }
 }
 
+/// Who puts the question with this number.
+fn layer_of(number: u8) -> Layer
+    ensures { λ r. ⌜ r ≡ layerOf number ⌝ }
+{
+    match number {
+        1..=7 => Layer::File,
+        13 => Layer::Bank,
+        _ => Layer::Sheet,
+    }
+}
+
 impl Fault {
     /// The layer that put the question.
     pub fn layer(&self) -> Layer
         ensures { λ r. ⌜ r ≡ layerOf (numberOf (now (self .entry) .refusal)) ⌝ }
     {
-        match self.refusal.number() {
-            1..=7 => Layer::File,
-            13 => Layer::Bank,
-            _ => Layer::Sheet,
-        }
+        layer_of(self.refusal.number())
     }
 }
 

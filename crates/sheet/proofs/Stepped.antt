@@ -1,7 +1,8 @@
 -- Tables after a step.
-use mathlib.Core.Path.{_≡_, sym, ap, subst, _∙_}
+use mathlib.Core.Path.{_≡_, refl, sym, ap, subst, _∙_}
 use mathlib.Core.List.{List}
 use mathlib.Core.Bool.{true}
+use mathlib.Core.Logic.{_⊎_, inl, inr, ⊎-elim}
 use Prim.Native.Nat.{ℕ, _≤_, _<_}
 use native.Mathlib.Omega.{arith}
 use lib.ListN.{length, getD, set}
@@ -13,13 +14,19 @@ use Rattle.model.specs.declared.times.Times.{Times}
 use Rattle.model.specs.Items.{noItem, noTimes, endOf}
 use Rattle.model.specs.Laws.{Handed, Reckoning}
 use Rattle.promise.specs.declared.outcome.Became.{Became}
+use Rattle.promise.specs.declared.outcome.Became.the-variants.{Raised, Quiet}
+use Rattle.promise.specs.declared.outcome.Cause.{Cause}
 use Rattle.promise.specs.State.{State, itemAt, timesAt}
-use Rattle.promise.specs.Steps.{latest, found, judge, written, brokenOff}
+use Rattle.promise.specs.Steps.{latest, found, judge, by, written, brokenOff}
 use Rattle.promise.proofs.Invariant.{set-at, timed, times-same}
 use Rattle.promise.proofs.Judged.{Told, told}
 use Rattle.sheet.specs.declared.table.Table.{Table}
 use Rattle.sheet.specs.Tables.{stateOf, Linked, Fit}
 use Rattle.sheet.proofs.Tables.{items-count, item-is, times-is}
+
+pub by-written : {X : Type 0} (b : Became) (x : X) (z : Cause → X) → (b ≡ Raised) ⊎ (b ≡ Quiet) → x ≡ by b x x z
+by-written b x z (inl e) = rw e refl
+by-written b x z (inr e) = rw e refl
 
 -- the second table is the first one with other times and another mark of breaking
 pub record Same (t t′ : Table) : Type 0 where
@@ -45,8 +52,12 @@ module _ (t : Table) (i : ℕ) (f : Fit t) (l : i < t .count) where
   pub judged-is : (new : Times) (b : Became) → b ≡ judge (getD (t .items) i noItem) (getD (t .times) i noTimes) new → b ≡ judge (itemAt (stateOf t) i) (timesAt (stateOf t) i) new
   judged-is new b e = let x = item-is t i l in let y = times-is t i l in cc
 
-  pub told-of : (new : Times) (b c : Became) → b ≡ judge (itemAt (stateOf t) i) (timesAt (stateOf t) i) new → b ≡ c → Told (itemAt (stateOf t) i) (timesAt (stateOf t) i) new c
+  told-of : (new : Times) (b c : Became) → b ≡ judge (itemAt (stateOf t) i) (timesAt (stateOf t) i) new → b ≡ c → Told (itemAt (stateOf t) i) (timesAt (stateOf t) i) new c
   told-of new b c e d = subst (Told (itemAt (stateOf t) i) (timesAt (stateOf t) i) new) (sym e ∙ d) (told (itemAt (stateOf t) i) (timesAt (stateOf t) i) new)
+
+  -- an item that is raised or quiet ends in time
+  pub fits-of : (new : Times) (b : Became) → b ≡ judge (itemAt (stateOf t) i) (timesAt (stateOf t) i) new → (b ≡ Raised) ⊎ (b ≡ Quiet) → endOf (itemAt (stateOf t) i) new ≤ itemAt (stateOf t) i .deadline
+  fits-of new b e = ⊎-elim (λ d. told-of new b Raised e d .0) (λ d. told-of new b Quiet e d .0)
 
   pub written-is : (t′ : Table) (new : Times) → Same t t′ → t′ .times ≡ set (t .times) i new → t′ .broken ≡ t .broken → stateOf t′ ≡ written (stateOf t) i new
   written-is t′ new same times whole =

@@ -68,8 +68,7 @@ fn apply(t: &mut Table, i: usize, new: Times) -> Became
 {
     let became = judge(t.items[i], t.times[i], new);
     match became {
-        Became::Raised => t.times[i] = new,
-        Became::Quiet => t.times[i] = new,
+        Became::Raised | Became::Quiet => t.times[i] = new,
         Became::Broke(_) => t.break_off(),
     }
     became
@@ -92,7 +91,7 @@ impl<R: Rule> Sheet<R> {
         Times { late, wait }
     }
 
-    /// Judges the times that a step on item `i` found, and writes them or breaks the sheet.
+    /// The same on the sheet's own table, which is fit.
     fn put(&mut self, i: usize, new: Times) -> Became
         requires inside { ⌜ i < now self .table .count ⌝ }
         requires late { ⌜ new .late ≤ 3000000 ⌝ }

@@ -1,6 +1,5 @@
-use mathlib.Core.Path.{refl}
-use Rattle.promise.specs.declared.outcome.Became.the-variants.{Raised, Quiet}
-use Rattle.sheet.proofs.Stepped.{Same, duration-small, judged-is, told-of, written-is, written-fit, broken-is, broken-fit}
+use mathlib.Core.Path.{refl, _∙_}
+use Rattle.sheet.proofs.Stepped.{Same, duration-small, by-written, judged-is, fits-of, written-is, written-fit, broken-is, broken-fit}
 use Rattle.sheet.proofs.step.apply.Needs as need
 
 pub judge-became-requires : need.judge-became-requires
@@ -12,29 +11,14 @@ returns-in-Raised c =
     let i = c .args .i in
     let f = c .pre .fit in
     let l = c .pre .inside in
-    let a = judged-is t i f l (c .args .new) (c .judge-became .result) (c .judge-became .ensures) in
+    let new = c .args .new in
+    let a = judged-is t i f l new (c .judge-became .result) (c .judge-became .ensures) in
     let same : Same t _ = record { count = refl; items = refl; arc-count = refl; arcs = refl } in
-    let e = written-is t i f l _ (c .args .new) same refl refl in
+    let e = written-is t i f l _ new same refl refl in
     record {
       answer = a;
-      state = simp (c .in-Raised .is) e;
-      fit = written-fit t i f l _ (c .args .new) same refl e (told-of t i f l (c .args .new) _ Raised a (c .in-Raised .is) .0);
-      count = refl;
-    }
-
-pub returns-in-Quiet : need.returns-in-Quiet
-returns-in-Quiet c =
-    let t = c .args .t .now in
-    let i = c .args .i in
-    let f = c .pre .fit in
-    let l = c .pre .inside in
-    let a = judged-is t i f l (c .args .new) (c .judge-became .result) (c .judge-became .ensures) in
-    let same : Same t _ = record { count = refl; items = refl; arc-count = refl; arcs = refl } in
-    let e = written-is t i f l _ (c .args .new) same refl refl in
-    record {
-      answer = a;
-      state = simp (c .in-Quiet .is) e;
-      fit = written-fit t i f l _ (c .args .new) same refl e (told-of t i f l (c .args .new) _ Quiet a (c .in-Quiet .is) .0);
+      state = e ∙ by-written (c .judge-became .result) _ _ (c .in-Raised .is);
+      fit = written-fit t i f l _ new same refl e (fits-of t i f l new (c .judge-became .result) a (c .in-Raised .is));
       count = refl;
     }
 
