@@ -1,4 +1,6 @@
 //! The two files: rows of records taken in one after the other, and what they make.
+#![tactic(auto)]
+
 pub mod cell;
 pub mod faulty;
 pub mod names;

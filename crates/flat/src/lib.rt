@@ -1,4 +1,6 @@
 //! A rule that is none of the machine's, and a sheet driven over it: any rule will do.
+#![tactic(auto)]
+
 pub mod alone;
 pub mod flat;
 #[cfg(test)]

@@ -1,2 +1,4 @@
 //! The tool as a function for programs in C or Rust that link it.
+#![tactic(auto)]
+
 pub mod linked;

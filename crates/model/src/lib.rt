@@ -1,4 +1,6 @@
 //! What every other crate speaks of: items, arcs, sets of times, and what a rule means.
+#![tactic(auto)]
+
 pub mod arc;
 pub mod item;
 pub mod rule;

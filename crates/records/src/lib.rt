@@ -1,4 +1,6 @@
 //! The records of the two files, as they lie there, and the questions put to each.
+#![tactic(auto)]
+
 pub mod bytes;
 pub mod fault;
 mod item;

@@ -1,2 +1,4 @@
 //! From two files to the page.
+#![tactic(auto)]
+
 pub mod tell;

@@ -1,4 +1,6 @@
 //! The rules of the machine: table, processor, CAN and gateway, and the bank of them all.
+#![tactic(auto)]
+
 pub mod all;
 pub mod can;
 pub mod gateway;

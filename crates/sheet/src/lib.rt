@@ -1,4 +1,6 @@
 //! The sheet: seven calls over any rule, with the whole promise.
+#![tactic(auto)]
+
 mod admit;
 mod answers;
 mod run;

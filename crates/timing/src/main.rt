@@ -1,5 +1,7 @@
 //! Reads `cell.bin` and `process.bin` from the current folder, puts the questions of the file layer
 //! to both, and prints what they hold, or the first fault.
+#![tactic(auto)]
+
 mod listing;
 
 use crate::listing::{Counts, list};

@@ -1,6 +1,8 @@
 //! Reads `cell.bin` and `process.bin` from the current folder and prints the page that they come to:
 //! the latest release, wait and end of every item, or that there are no such times, or the first
 //! fault.
+#![tactic(auto)]
+
 use report::tell::tell;
 use std::{fs, io};
 

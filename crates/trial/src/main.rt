@@ -1,5 +1,7 @@
 //! Puts many machines through the tool and through another reckoner, and compares what comes of
 //! them. The reckoner uses nothing of the tool, which is called in `tool` alone.
+#![tactic(auto)]
+
 mod calls;
 mod damage;
 mod draw;
