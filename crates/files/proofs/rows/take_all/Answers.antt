@@ -12,7 +12,7 @@ loop-place-preserved g c =
     let v = rw take_rest at c.in-Ok.ensures.value in
     let w = simp (take_rest, length-drop) at c.in-Ok.ensures.within in
     let k : c.in-Ok.length ≤ length (drop at bs) = simp length-drop (omega (arith, w)) in
-    let on = goes (step_of g.I.Intake.takes c.args.file) c.args.file at c.in-Ok.length (drop at bs) c.loop-place.intake c.take-first.new.intake w.0 k v in
+    let on = goes (step_of g.I.Intake.takes c.args.file) c.args.file at c.in-Ok.length (drop at bs) c.loop-place.intake c.take_first.new.intake w.0 k v in
     (omega (arith, w), rw drop-drop at (sym on) ∙ c.loop-place.invariant.1)
 
 pub returns-in-Err : goal.returns-in-Err

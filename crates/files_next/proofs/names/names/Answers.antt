@@ -11,13 +11,13 @@ use Rattle.files_next.proofs.names.names.Goals as goal
 pub loop-row-init : goal.loop-row-init
 loop-row-init c = (omega arith, refl, blank 64 (names_of c.args.file.now), refl)
 
-pub loop-row-preserved-in-default-row : goal.loop-row-preserved-in-default-row
-loop-row-preserved-in-default-row c =
+pub loop-row-preserved-in_default-row : goal.loop-row-preserved-in_default-row
+loop-row-preserved-in_default-row c =
     let rest = c.loop-row.rest.now in
     let n = c.in-Ok.length in
     let w = c.in-Ok.ensures.within in
     let first = said_first Process rest (said c.in-Ok.row) n w.0 w.1 (sym c.in-Ok.ensures.value) in
-    (c.loop-row.invariant.0, c.loop-row.invariant.1, c.loop-row.invariant.2, rw (take_rest rest n) (c.loop-row.invariant.3 ∙ (ap names_in first ∙ no_name c.in-Ok.row _ c.in-default-row.not-Item)))
+    (c.loop-row.invariant.0, c.loop-row.invariant.1, c.loop-row.invariant.2, rw (take_rest rest n) (c.loop-row.invariant.3 ∙ (ap names_in first ∙ no_name c.in-Ok.row _ c.in_default-row.not-Item)))
 
 pub returns-then-count-ge64 : goal.returns-then-count-ge64
 returns-then-count-ge64 c = λ i l. c.loop-row.invariant.2 i ∙ get_or-take c.loop-row.count (names_of c.args.file.now) i [] (omega arith)
@@ -45,5 +45,5 @@ loop-row-preserved c =
 pub returns : goal.returns
 returns c = λ i l.
     let rest = c.loop-row.rest.now in
-    let none : said_in Process 0 rest ≡ [] = said_none Process rest c.in-default.field-0 (sym c.in-default.ensures.value) in
+    let none : said_in Process 0 rest ≡ [] = said_none Process rest c.in_default.field-0 (sym c.in_default.ensures.value) in
     all_there (map (λ n. n.now) c.loop-row.names) (names_of c.args.file.now) c.loop-row.count i c.loop-row.invariant.2 (c.loop-row.invariant.3 ∙ ap names_in none)

@@ -8,7 +8,7 @@ pub returns : goal.returns
 returns c =
     let bs = c.args.bytes.now in
     let n : 4 ≤ length bs = search rules in
-    let body = simp (take_rest, length-drop) at c.in-ok-body.ensures in
+    let body = simp (take_rest, length-drop) at c.in_ok-body.ensures in
     let enough = body.0 in
     let is = body.1 in
     let t : (leb 4 (length bs) && leb (4 + two bs 0) (length bs)) ≡ true = and_from _ _ (le-leb 4 (length bs) n) (le-leb (4 + two bs 0) (length bs) (omega arith)) in

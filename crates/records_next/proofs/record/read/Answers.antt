@@ -1,5 +1,5 @@
 use Rattle.std.proofs.Common.{rules}
 use Rattle.records_next.proofs.record.read.Goals as goal
 
-pub returns-in-default-kind : goal.returns-in-default-kind
-returns-in-default-kind c = rw c.in-Process.is (search rules)
+pub returns-in_default-kind : goal.returns-in_default-kind
+returns-in_default-kind c = rw c.in-Process.is (search rules)

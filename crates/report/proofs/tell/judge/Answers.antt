@@ -15,8 +15,8 @@ use Rattle.report.proofs.Paged.{ran_is, rows_are}
 use Rattle.report.proofs.Rowing.{times_of_lem}
 use Rattle.report.proofs.tell.judge.Goals as goal
 
-pub offset-bounds-names-item : goal.offset-bounds-names-item
-offset-bounds-names-item g c =
+pub offset_bounds-names-item : goal.offset_bounds-names-item
+offset_bounds-names-item g c =
     let t = c.args.sheet.now.table in
     let h = c.decide-result.ensures.verdict.inside c.in-Broken.item c.in-Broken.cause c.in-Broken.is in
     let few : c.in-Broken.item < 64 = omega (arith, h, length-take t.count t.items, t.few) in

@@ -10,9 +10,9 @@ use Rattle.report.proofs.tell.tell.Goals as goal
 pub returns : goal.returns
 returns c =
     let process = c.args.process.now in
-    let bank : c.make-bank-made.result.0 ≡ or_none (cell_of c.args.cell.now) = c.make-bank-made.ensures.bank in
-    let answer = c.make-bank-made.ensures.answer in
+    let bank : c.make_bank-made.result.0 ≡ or_none (cell_of c.args.cell.now) = c.make_bank-made.ensures.bank in
+    let answer = c.make_bank-made.ensures.answer in
     record {
-      page = c.tell-after.ensures.page ∙ (ap (λ (b : AllClasses). after c.make-bank-made.result.1 (over_of (means b) process)) bank ∙ ap (λ a. after a (over_of (cell_means c.args.cell.now) process)) answer);
-      truth = subst (λ (b : AllClasses). Truth (means b) (or_empty (sheet_of (means b) process)) (told c.tell-after.result)) bank c.tell-after.ensures.truth;
+      page = c.tell_after.ensures.page ∙ (ap (λ (b : AllClasses). after c.make_bank-made.result.1 (over_of (means b) process)) bank ∙ ap (λ a. after a (over_of (cell_means c.args.cell.now) process)) answer);
+      truth = subst (λ (b : AllClasses). Truth (means b) (or_empty (sheet_of (means b) process)) (told c.tell_after.result)) bank c.tell_after.ensures.truth;
     }

@@ -2,7 +2,7 @@ use Rattle.std.proofs.Common.{le_refl, arith}
 use Rattle.rules.specs.SumsLemmas.{sum_of_parts_small}
 use Rattle.rules.proofs.interference.load_of.Goals as goal
 
-pub overflow-add-result : goal.overflow-add-result
-overflow-add-result g c =
+pub overflow_add-result : goal.overflow_add-result
+overflow_add-result g c =
     let k = sum_of_parts_small _ _ g.met.C.Contribution.fair _ _ c.args.i _ c.requires.handed c.requires.inside (le_refl _) in
     omega (arith, c.requires.handed.valid c.args.i c.requires.inside)

@@ -27,12 +27,12 @@ returns-in-Broke c =
     let t = c.args.t.now in
     let i = c.args.i in
     let f = c.requires.fit in
-    let off = c.break-off.ensures in
-    let same : Same t c.break-off.new.self = record { count = off.count; items = off.items; arc_count = off.arc_count; arcs = off.arcs } in
-    let e = broken_is t c.break-off.new.self same off.times off.broken in
+    let off = c.break_off.ensures in
+    let same : Same t c.break_off.new.self = record { count = off.count; items = off.items; arc_count = off.arc_count; arcs = off.arcs } in
+    let e = broken_is t c.break_off.new.self same off.times off.broken in
     record {
       answer = judged_is t i f c.requires.inside c.args.new c.judge-became.result c.judge-became.ensures;
       state = simp c.in-Broke.is e;
-      fit = broken_fit t c.break-off.new.self f same off.times e;
+      fit = broken_fit t c.break_off.new.self f same off.times e;
       count = off.count;
     }

@@ -34,7 +34,7 @@ replace-requires g c =
     let i = c.args.number in
     let x = c.args.item in
     let bytes : Bytes x = search rules in
-    let exists = ask_ok _ _ _ (sym c.in-default.ensures) in
+    let exists = ask_ok _ _ _ (sym c.in_default.ensures) in
     let keeps = ask_ok _ _ _ exists.1 in
     let limits = ask_ok _ _ _ keeps.1 in
     let start = ask_ok _ _ _ limits.1 in
@@ -46,8 +46,8 @@ replace-requires g c =
       valid = valid_changed (item_at s i) x (f.handed.valid i il) same limits.0 start.0 bytes;
     }
 
-pub invariant-of-self : goal.invariant-of-self
-invariant-of-self g c = (∣ c.replace.ensures.fit ∣₁, tt)
+pub invariant_of-self : goal.invariant_of-self
+invariant_of-self g c = (∣ c.replace.ensures.fit ∣₁, tt)
 
 pub returns : goal.returns
 returns g c =
@@ -57,7 +57,7 @@ returns g c =
     let m : Meaning = meaning g.R.Rule ρ in
     let s : State = state_of c.args.self.now.table in
     let bytes : Bytes x = search rules in
-    let e = c.in-default.ensures in
+    let e = c.in_default.ensures in
     record {
       answer = e;
       leaves = leaves m (g.met.R.Rule.lawful ρ) s (Call.change i x) (state_of c.replace.new.t) bytes (c.replace.ensures.state ∙ left_granted (change_ask m s i x) _ s e);

@@ -39,13 +39,13 @@ loop-self-preserved g c =
     let st : s' ≡ stepped (D ρ) s i = subst (λ (x : g.row.R.Denot). s' ≡ stepped (D x) s i) inv.1 c.turn-became.ensures.state in
     let way : ((outcome (D ρ) s i ≡ Raised) × (c.match-became.quiet ≡ 0) × (c.match-became.raises ≡ c.loop-self.raises + 1)) ⊎ ((outcome (D ρ) s i ≡ Quiet) × (c.match-became.quiet ≡ c.loop-self.quiet + 1) × (c.match-became.raises ≡ c.loop-self.raises)) =
     elim c.match-became.branch [ in-Raised w ↦ inl (sym o ∙ w.in-Raised.is, w.quiet-is, w.raises-is) | in-Quiet w ↦ inr (sym o ∙ w.in-Quiet.is, w.quiet-is, w.raises-is) ] in
-    let j : c.next-item-item.result ≡ next s i = c.next-item-item.ensures.value ∙ ap (λ k. cond (ltb (i + 1) k) (i + 1) 0) (sym n) in (
+    let j : c.next_item-item.result ≡ next s i = c.next_item-item.ensures.value ∙ ap (λ k. cond (ltb (i + 1) k) (i + 1) 0) (sym n) in (
       again (D ρ) (c.args.allowance - steps) (c.args.allowance - (steps + 1)) s s' i c.loop-self.quiet steps c.loop-self.raises
-          (omega (arith, c.if-steps-allowance.false)) (omega (arith, leb-false _ _ (sym c.if-settles.ensures))) st c.next-item-item.result c.match-became.quiet c.match-became.raises j way ∙ inv.0,
+          (omega (arith, c.if-steps-allowance.false)) (omega (arith, leb-false _ _ (sym c.if-settles.ensures))) st c.next_item-item.result c.match-became.quiet c.match-became.raises j way ∙ inv.0,
       c.turn-became.ensures.rule ∙ inv.1,
       ap length (step_items (D ρ) s s' i st) ∙ n,
       c.turn-became.ensures.count ∙ inv.3,
-      (λ _. c.next-item-item.ensures.inside),
+      (λ _. c.next_item-item.ensures.inside),
       omega (arith, c.if-steps-allowance.false),
       omega (arith, inv.6),
       omega (arith, leb-false _ _ (sym c.if-settles.ensures)),

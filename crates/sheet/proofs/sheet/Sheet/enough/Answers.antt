@@ -11,8 +11,8 @@ use Rattle.sheet.proofs.sheet.Sheet.enough.Goals as goal
 few : (t : Table) → Fit t → (xs : List Item) → xs ≡ (state_of t).items → length xs ≤ 64
 few t f xs e = omega (arith, ap length e, items_count t f, t.few)
 
-pub overflow-add-room : goal.overflow-add-room
-overflow-add-room g c =
+pub overflow_add-room : goal.overflow_add-room
+overflow_add-room g c =
     let t = c.args.self.now.table in
     omega (arith, few t (fit_of t c.args.self.now.fit) _ c.items-items.ensures, c.loop-item.invariant.1, c.loop-item-test.true)
 
@@ -21,13 +21,13 @@ loop-item-preserved g c =
     let more = sum_by_more (λ (x : Item). x.deadline - x.duration) c.items-items.result.now c.loop-item.item-index no_item c.loop-item-test.true in
     (omega (arith, more, c.slack.ensures, c.loop-item.invariant.0), omega (arith, c.loop-item.invariant.1))
 
-pub overflow-add-result : goal.overflow-add-result
-overflow-add-result g c =
+pub overflow_add-result : goal.overflow_add-result
+overflow_add-result g c =
     let t = c.args.self.now.table in
     omega (arith, few t (fit_of t c.args.self.now.fit) _ c.items-items.ensures, c.loop-item.invariant.1, c.loop-item.auto.item-index-end)
 
-pub overflow-mul-result : goal.overflow-mul-result
-overflow-mul-result g c =
+pub overflow_mul-result : goal.overflow_mul-result
+overflow_mul-result g c =
     let t = c.args.self.now.table in
     let n = few t (fit_of t c.args.self.now.fit) _ c.items-items.ensures in
     let r : c.loop-item.room + 1 ≤ 274877906945 = omega (arith, n, c.loop-item.invariant.1, c.loop-item.auto.item-index-end) in

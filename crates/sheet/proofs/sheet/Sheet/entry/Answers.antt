@@ -31,7 +31,7 @@ push-requires g c =
     let t = c.args.self.now.table in
     let f = fit_of t c.args.self.now.fit in
     let bytes : Bytes c.args.item = search rules in
-    let few = ask_ok _ _ _ (sym c.in-default.ensures) in
+    let few = ask_ok _ _ _ (sym c.in_default.ensures) in
     let period = ask_ok _ _ _ few.1 in
     let limits = ask_ok _ _ _ period.1 in
     let start = ask_ok _ _ _ limits.1 in
@@ -41,8 +41,8 @@ push-requires g c =
       valid = valid_from c.args.item period.0 limits.0 start.0 bytes;
     }
 
-pub invariant-of-self : goal.invariant-of-self
-invariant-of-self g c = (∣ c.push.ensures.fit ∣₁, tt)
+pub invariant_of-self : goal.invariant_of-self
+invariant_of-self g c = (∣ c.push.ensures.fit ∣₁, tt)
 
 pub returns : goal.returns
 returns g c =
@@ -52,7 +52,7 @@ returns g c =
     let t = c.args.self.now.table in
     let s : State = state_of t in
     let bytes : Bytes x = search rules in
-    let e = c.in-default.ensures in
+    let e = c.in_default.ensures in
     let number : ℕ → Result ℕ Refusal = λ n. Ok n in
     record {
       answer = ap number (sym (items_count t (fit_of t c.args.self.now.fit))) ∙ then_granted (entry_ask m s x) _ e;

@@ -3,8 +3,8 @@ use Rattle.promise.specs.State.{meaning}
 use Rattle.promise.proofs.Kept.{promised}
 use Rattle.sheet.proofs.sheet.Sheet.new.Goals as goal
 
-pub invariant-of-result : goal.invariant-of-result
-invariant-of-result g c = (∣ c.blank.ensures.fit ∣₁, tt)
+pub invariant_of-result : goal.invariant_of-result
+invariant_of-result g c = (∣ c.blank.ensures.fit ∣₁, tt)
 
 pub returns : goal.returns
 returns g c =

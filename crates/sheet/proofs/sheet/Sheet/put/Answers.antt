@@ -10,5 +10,5 @@ apply-requires g c =
       wait = c.requires.wait;
     }
 
-pub invariant-of-self : goal.invariant-of-self
-invariant-of-self g c = (∣ c.apply.ensures.fit ∣₁, tt)
+pub invariant_of-self : goal.invariant_of-self
+invariant_of-self g c = (∣ c.apply.ensures.fit ∣₁, tt)

@@ -25,6 +25,6 @@ returns g c =
     let s : State = state_of c.args.self.now.table in
     let made : Option QueueBound → Result (Option QueueBound) Refusal = λ b. Ok b in
     record {
-      answer = ap made c.bound.ensures ∙ then_granted (settled_ask m s) _ c.in-default.ensures;
+      answer = ap made c.bound.ensures ∙ then_granted (settled_ask m s) _ c.in_default.ensures;
       leaves = leaves m (g.met.R.Rule.lawful ρ) s (Call.queue_bound c.args.class c.args.station c.args.queue) s tt refl;
     }

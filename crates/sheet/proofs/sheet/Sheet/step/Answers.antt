@@ -31,13 +31,13 @@ returns-in-Err g c =
 pub turn-became-requires : goal.turn-became-requires
 turn-became-requires g c =
     let t = c.args.self.now.table in
-    let exists = ask_ok (ltb c.args.number (length (state_of t).items)) _ _ (sym c.in-default.ensures) in
+    let exists = ask_ok (ltb c.args.number (length (state_of t).items)) _ _ (sym c.in_default.ensures) in
     record { inside = omega (arith, ltb-true _ _ exists.0, items_count t (fit_of t c.args.self.now.fit)) }
 
 pub end-requires : goal.end-requires
 end-requires g c =
     let t = c.args.self.now.table in
-    let exists = ask_ok (ltb c.args.number (length (state_of t).items)) _ _ (sym c.in-default.ensures) in
+    let exists = ask_ok (ltb c.args.number (length (state_of t).items)) _ _ (sym c.in_default.ensures) in
     omega (arith, ltb-true _ _ exists.0, items_count t (fit_of t c.args.self.now.fit), c.turn-became.ensures.count)
 
 pub returns : goal.returns
@@ -48,7 +48,7 @@ returns g c =
     let s : State = state_of c.args.self.now.table in
     let s' : State = state_of c.turn-became.new.self.table in
     let st : s' ≡ stepped m.wait s i = c.turn-became.ensures.state in
-    let e = c.in-default.ensures in
+    let e = c.in_default.ensures in
     let pair : Became → ℕ → Result (Became × ℕ) Refusal = λ b n. Ok (b, n) in
     let end : c.end.result ≡ end_at s.items (stepped m.wait s i).times i =
     c.end.ensures ∙ (ap (λ (xs : List Item). end_at xs s'.times i) (step_items m.wait s s' i st) ∙ ap (λ (u : State). end_at s.items u.times i) st) in

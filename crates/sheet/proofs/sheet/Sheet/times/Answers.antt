@@ -29,7 +29,7 @@ returns-then-self-table g c =
     let n = items_count t (fit_of t c.args.self.now.fit) in
     let short : leb (length s.items) (length c.args.table.now) ≡ false = lt-leb (length s.items) (length c.args.table.now) (omega arith) in
     record {
-      answer = sym (cond-false _ (Ok tt) (Err ShortTable) short) ∙ then_granted (settled_ask m s) _ c.in-default.ensures;
+      answer = sym (cond-false _ (Ok tt) (Err ShortTable) short) ∙ then_granted (settled_ask m s) _ c.in_default.ensures;
       rows = refl;
       leaves = leaves m (g.met.R.Rule.lawful ρ) s (Call.times (length c.args.table.now)) s tt refl;
     }
@@ -43,7 +43,7 @@ returns g c =
     let n : length s.items ≡ t.count = items_count t (fit_of t c.args.self.now.fit) in
     let long : leb (length s.items) (length c.args.table.now) ≡ true = le-leb (length s.items) (length c.args.table.now) (omega arith) in
     record {
-      answer = sym (cond-true _ (Ok tt) (Err ShortTable) long) ∙ then_granted (settled_ask m s) _ c.in-default.ensures;
+      answer = sym (cond-true _ (Ok tt) (Err ShortTable) long) ∙ then_granted (settled_ask m s) _ c.in_default.ensures;
       rows = record { lines = λ i l. c.fill.ensures.lines i (omega arith); rest = subst (λ k. drop k c.fill.new.table ≡ drop k c.args.table.now) (sym n) c.fill.ensures.rest };
       leaves = leaves m (g.met.R.Rule.lawful ρ) s (Call.times (length c.args.table.now)) s tt refl;
     }

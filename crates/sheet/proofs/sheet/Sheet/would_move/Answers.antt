@@ -17,4 +17,4 @@ returns g c =
     let s : State = state_of t in
     let i = c.args.i in
     let b = judged_is t i (fit_of t c.args.self.now.fit) c.requires.inside c.find-new.result c.judge-became.result c.judge-became.ensures in
-    ap not (c.is-quiet.ensures ∙ ap is_quiet (b ∙ ap (judge (item_at s i) (times_at s i)) c.find-new.ensures.value))
+    ap not (c.is_quiet.ensures ∙ ap is_quiet (b ∙ ap (judge (item_at s i) (times_at s i)) c.find-new.ensures.value))
