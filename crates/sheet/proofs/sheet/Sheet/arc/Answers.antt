@@ -41,7 +41,7 @@ join-requires g c =
     record { fit = f; room = omega (arith, arcs_count t f, granted.2); inside = granted.0 }
 
 pub invariant_of-self : goal.invariant_of-self
-invariant_of-self g c = (∣ c.join.ensures.fit ∣₁, tt)
+invariant_of-self g c = record { fit = ∣ c.join.ensures.fit ∣₁ }
 
 pub returns : goal.returns
 returns g c =

@@ -47,7 +47,7 @@ replace-requires g c =
     }
 
 pub invariant_of-self : goal.invariant_of-self
-invariant_of-self g c = (∣ c.replace.ensures.fit ∣₁, tt)
+invariant_of-self g c = record { fit = ∣ c.replace.ensures.fit ∣₁ }
 
 pub returns : goal.returns
 returns g c =

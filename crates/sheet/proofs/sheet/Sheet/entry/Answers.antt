@@ -42,7 +42,7 @@ push-requires g c =
     }
 
 pub invariant_of-self : goal.invariant_of-self
-invariant_of-self g c = (∣ c.push.ensures.fit ∣₁, tt)
+invariant_of-self g c = record { fit = ∣ c.push.ensures.fit ∣₁ }
 
 pub returns : goal.returns
 returns g c =

@@ -4,7 +4,7 @@ use Rattle.promise.proofs.Kept.{promised}
 use Rattle.sheet.proofs.sheet.Sheet.new.Goals as goal
 
 pub invariant_of-result : goal.invariant_of-result
-invariant_of-result g c = (∣ c.blank.ensures.fit ∣₁, tt)
+invariant_of-result g c = record { fit = ∣ c.blank.ensures.fit ∣₁ }
 
 pub returns : goal.returns
 returns g c =

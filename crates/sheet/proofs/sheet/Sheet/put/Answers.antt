@@ -11,4 +11,4 @@ apply-requires g c =
     }
 
 pub invariant_of-self : goal.invariant_of-self
-invariant_of-self g c = (∣ c.apply.ensures.fit ∣₁, tt)
+invariant_of-self g c = record { fit = ∣ c.apply.ensures.fit ∣₁ }
