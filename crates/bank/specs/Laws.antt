@@ -1,7 +1,8 @@
--- The law of a bank, from those of its front and of what is behind.
+-- The law of a bank, from those of its front and of what is behind, and that of a rule with no wait and no load.
 use Rattle.std.specs.Prelude.{ℕ, ◌<◌, ◌≤◌, true, false, cond, ◌==◌, slice_index_or}
 use Rattle.model.specs.Items.{no_item}
 use Rattle.model.specs.Laws.{Reckoning, Monotone, StaysBelow, Law}
+use Rattle.std.proofs.Common.{arith}
 use Rattle.bank.specs.Bank.{chosen}
 
 chosen_monotone : (n : ℕ) (f g : Reckoning) → Monotone f → Monotone g → Monotone (chosen n f g)
@@ -21,4 +22,13 @@ bank_law n w l w' l' p q =
       load_monotone = chosen_monotone n l l' p.load_monotone q.load_monotone;
       wait_bounded = chosen_bounded n _ w w' p.wait_bounded q.wait_bounded;
       load_bounded = chosen_bounded n _ l l' p.load_bounded q.load_bounded;
+    }
+
+pub nothing_law : Law (λ _ _ _. 0) (λ _ _ _. 0)
+nothing_law =
+    record {
+      wait_monotone = λ _ _ _ _ _ _ _ _. omega arith;
+      load_monotone = λ _ _ _ _ _ _ _ _. omega arith;
+      wait_bounded = λ _ _ _ _ _. omega arith;
+      load_bounded = λ _ _ _ _ _. omega arith;
     }

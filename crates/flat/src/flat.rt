@@ -1,5 +1,4 @@
-ghost use Rattle.flat.specs.Flatly.{flat_admits, flat_wait, flat_load};
-ghost use Rattle.std.proofs.Common.{rules};
+ghost use Rattle.flat.specs.Flatly.{flat_admits, flat_wait, flat_load, flat_law};
 
 use model::item::Item;
 use model::rule::Rule;
@@ -19,7 +18,7 @@ impl Rule for Flat {
 
     ghost load = { λ _. flat_load };
 
-    ghost lawful = { Prim.search rules };
+    ghost lawful = { λ r. flat_law r.stretch };
 
     fn admits(&self, item: &Item) -> bool {
         item.size != 255

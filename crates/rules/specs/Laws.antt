@@ -8,7 +8,7 @@ use Rattle.rules.specs.Sums.{Part, Fair, largest_of_weaker, capped, waiting, loa
 use Rattle.rules.specs.Processor.{processor_wait, work}
 use Rattle.rules.specs.Can.{can_wait, can_load, frames, queued}
 use Rattle.rules.specs.Gateway.{through_slot, gateway_wait, gateway_load, bytes}
-use Rattle.rules.specs.SumsLemmas.{over_stronger_monotone, sum_of_parts_small}
+use Rattle.rules.specs.SumBounds.{over_stronger_monotone, sum_of_parts_small}
 use Rattle.rules.specs.Parts.{ceiling_rises, work_fair, frames_fair, queued_fair, bytes_fair}
 
 capped_rises : {a b : ℕ} → a ≤ b → capped a ≤ capped b

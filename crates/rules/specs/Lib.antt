@@ -7,4 +7,4 @@ pub mod Gateway
 pub mod All
 pub mod Parts
 pub mod Laws
-pub mod SumsLemmas
+pub mod SumBounds

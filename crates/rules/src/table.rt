@@ -1,5 +1,5 @@
 ghost use Rattle.rules.specs.Table.{table_admits};
-ghost use Rattle.std.proofs.Common.{rules};
+ghost use Rattle.bank.specs.Laws.{nothing_law};
 
 use crate::stations::Stations;
 use model::item::Item;
@@ -19,7 +19,7 @@ impl Rule for Table {
 
     ghost load = { λ _ _ _ _. 0 };
 
-    ghost lawful = { Prim.search rules };
+    ghost lawful = { λ _. nothing_law };
 
     fn admits(&self, item: &Item) -> bool {
         item.class == Self::CLASS

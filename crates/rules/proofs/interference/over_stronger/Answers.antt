@@ -1,5 +1,6 @@
 use Rattle.std.proofs.Common.{◌+◌, arith, rules}
-use Rattle.rules.specs.SumsLemmas.{stronger_yes, stronger_no, sum_of_parts_small}
+use Rattle.rules.specs.SumBounds.{sum_of_parts_small}
+use Rattle.rules.proofs.Sums.{stronger_yes, stronger_no}
 use Rattle.rules.proofs.interference.over_stronger.Goals as goal
 
 pub overflow_add-sum : goal.overflow_add-sum

@@ -1,5 +1,5 @@
 use Rattle.std.proofs.Common.{le_refl, arith}
-use Rattle.rules.specs.SumsLemmas.{sum_of_parts_small}
+use Rattle.rules.specs.SumBounds.{sum_of_parts_small}
 use Rattle.rules.proofs.interference.wait_of.Goals as goal
 
 pub overflow_add-largest_of_weaker : goal.overflow_add-largest_of_weaker
