@@ -125,13 +125,13 @@ fn the_faulty_part_is_in_the_file_that_the_fault_names(rt: HostRuntime) {
         place: 6,
         file: SourceFile::Process,
     };
-    assert!(rt; faulty(&PROCESSOR, &process, &short) == &[1u8, 0, 3, 0, 7]);
+    assert!(rt; faulty(&PROCESSOR, &process, &short) == [1u8, 0, 3, 0, 7].as_slice());
     let torn = Fault {
         refusal: Refusal::NotWhole,
         place: 11,
         file: SourceFile::Process,
     };
-    assert!(rt; faulty(&PROCESSOR, &process, &torn) == &[9u8]);
+    assert!(rt; faulty(&PROCESSOR, &process, &torn) == [9u8].as_slice());
     let long = Fault {
         refusal: Refusal::TooLong,
         place: 0,
@@ -143,7 +143,7 @@ fn the_faulty_part_is_in_the_file_that_the_fault_names(rt: HostRuntime) {
         place: 0,
         file: SourceFile::Cell,
     };
-    assert!(rt; faulty(&PROCESSOR, &process, &strange) == &PROCESSOR);
+    assert!(rt; faulty(&PROCESSOR, &process, &strange) == PROCESSOR.as_slice());
     assert!(rt; matches!(strange.layer(), Layer::File));
 }
 
