@@ -1,4 +1,4 @@
-use Rattle.std.proofs.Common.{◌≡◌, ℕ, ◌<◌, List, [], ◌∷◌, map, length, drop, sym, refl, ap, ◌∙◌, arith, MutBor}
+use Rattle.std.proofs.Common.{◌≡◌, ℕ, ◌<◌, List, [], ◌∷◌, map, length, drop, sym, refl, ap, ◌∙◌, arith, Bor}
 use Rattle.std.proofs.lemmas.List.{take_rest, length-map, length-set, map-set, get_or-take, drop-drop}
 use Rattle.records_next.specs.declared.fault.SourceFile.TheVariants.{Process}
 use Rattle.records_next.specs.Records.{said}
@@ -32,7 +32,7 @@ loop-row-preserved c =
     let more : List (List ℕ) = names_in (said_in Process 0 (drop n rest)) in
     let first : said_in Process 0 rest ≡ said c.in-Ok.row ∷ said_in Process 0 (drop n rest) = said_first Process rest (said c.in-Ok.row) n w.0 w.1 (sym c.in-Ok.ensures.value) in
     let mine : drop k names ≡ c.in-Item.new.name.now ∷ more = c.loop-row.invariant.3 ∙ (ap names_in first ∙ rw c.in-Item.is refl) in
-    let f : MutBor (List ℕ) → List ℕ = λ m. m.now in
+    let f : Bor (List ℕ) → List ℕ = λ m. m.now in
     let name = c.in-Item.new.name in
     let fits : k < length (map f c.loop-row.names) = omega (arith, length-map c.loop-row.names f, c.loop-row.invariant.1) in
     let on = one_more (map f c.loop-row.names) names more k name.now fits c.loop-row.invariant.2 mine in (

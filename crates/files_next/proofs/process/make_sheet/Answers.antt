@@ -12,7 +12,7 @@ returns-in-Ok g c =
     let bs = c.args.file.now in
     let rule = c.new-sheet.ensures.rule in
     let v = rw (rule, c.new-sheet.ensures.state) at c.in-Ok.ensures.view in
-    let bytes : ((i : ℕ) → get_or bs i 0 ≤ 255) = λ i. omega (arith, c.type-inv.file i) in
+    let bytes : ((i : ℕ) → get_or bs i 0 ≤ 255) = λ i. omega (arith, c.type_inv.file i) in
     let m = meaning g.R.Rule c.args.rule in
     let made = sheet_called m bs (state_of c.take_all.new.intake.table) (sym v) in
     record {

@@ -1,4 +1,4 @@
-use Rattle.std.proofs.Common.{◌≡◌, ℕ, ◌<◌, ◌≤◌, List, [], length, sym, ap, ◌∙◌, subst, arith, MutBor}
+use Rattle.std.proofs.Common.{◌≡◌, ℕ, ◌<◌, ◌≤◌, List, [], length, sym, ap, ◌∙◌, subst, arith, Bor}
 use Rattle.std.proofs.lemmas.List.{length-take}
 use Rattle.model.specs.declared.item.Item.{Item}
 use Rattle.promise.specs.declared.outcome.Ending.TheVariants.{Settled, Broken}
@@ -56,7 +56,7 @@ returns-in-Broken g c =
     let v = c.decide-result.ensures.verdict in
     let names : List (List ℕ) = names_of c.args.process.now in
     let few : i < 64 = omega (arith, v.inside i c.in-Broken.cause c.in-Broken.is, length-take table.count table.items, table.few) in
-    let name = at_map (λ (n : MutBor (List ℕ)). n.now) c.names-names.result i (record { ref_ptr = (0, 0); ghost_name = 0; now = [] }) ∙ c.names-names.ensures i few in
+    let name = at_map (λ (n : Bor (List ℕ)). n.now) c.names-names.result i (record { ref_ptr = (0, 0); now = [] }) ∙ c.names-names.ensures i few in
     let x : Ran = run_of m.wait s (enough s) in
     record {
       page = c.broken.ensures ∙ (ap (λ n. broken n c.in-Broken.cause c.decide-result.result.steps) name ∙ ran_is names x c.decide-result.result (state_of c.decide-result.new.sheet.table) (Broken i c.in-Broken.cause) v.result v.left c.in-Broken.is);
