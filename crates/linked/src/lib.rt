@@ -1,4 +1,4 @@
-//! The tool as a function for programs in C or Rust that link it.
+//! The tool as one call that fills a plain table.
 #![tactic(auto)]
 
 pub mod linked;

@@ -74,8 +74,7 @@ fn write(report: &Report<'_>, told: &mut Told)
 }
 
 /// Tells what a cell file and a process file come to.
-#[unsafe(no_mangle)]
-pub extern "C" fn vojemity_tell(cell: &[u8], process: &[u8], told: &mut Told)
+pub fn vojemity_tell(cell: &[u8], process: &[u8], told: &mut Told)
     ensures { Tells told.new (report_of cell.now process.now) }
 {
     write(&tell(cell, process), told);
