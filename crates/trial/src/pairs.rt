@@ -1,8 +1,8 @@
 //! Pairs of files, whole and spoilt, through the tool and the reckoner.
 use crate::draw::{Style, draw_machine, draw_style};
 use crate::encode::{Encoded, Order, cell_file, process_file};
+use crate::expected::page_of;
 use crate::machine::Machine;
-use crate::page::page_of;
 use crate::reckon::reckon;
 use crate::seed::Seed;
 use crate::spoil::{spoil_activities, spoil_bytes, spoil_links, spoil_stations, weave};
