@@ -10,7 +10,7 @@ pub enum Matter {
     Files,
     /// The page printed of it.
     Pages,
-    /// What the exported function tells of it.
+    /// What the call that the static library exports tells of it.
     Exported,
     /// The answer to a call on a sheet.
     Calls,

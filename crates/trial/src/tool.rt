@@ -252,7 +252,7 @@ fn same_times(times: &[ToldTimes], lines: &[Line]) -> bool {
     same
 }
 
-/// Does the exported function tell of a pair of files what this verdict says?
+/// Does the call that the static library exports tell of a pair of files what this verdict says?
 pub fn exported_agrees(cell: &[u8], process: &[u8], verdict: &Verdict) -> bool {
     let none = ToldTimes {
         late: 0,
