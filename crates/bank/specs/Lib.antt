@@ -1,2 +1,3 @@
 pub mod Bank
 pub mod Laws
+pub mod Drive

@@ -2,9 +2,9 @@ ghost use Rattle.std.specs.Prelude.{◌≡◌, false};
 ghost use Rattle.bank.specs.Bank.{by_class, chosen};
 ghost use Rattle.bank.specs.Laws.{bank_law, nothing_law};
 
+use model::asked::Asked;
 use model::item::Item;
 use model::rule::{ClassRule, Rule};
-use model::times::Times;
 
 /// The bank with no class: no record is admitted, and every wait and load is 0.
 #[derive(Drop)]
@@ -23,11 +23,11 @@ impl Rule for EmptyBank {
         false
     }
 
-    fn wait(&self, _items: &[Item], _times: &[Times], _i: usize) -> u32 {
+    fn wait(&self, _asked: Asked<'_>) -> u32 {
         0
     }
 
-    fn load(&self, _items: &[Item], _times: &[Times], _i: usize) -> u64 {
+    fn load(&self, _asked: Asked<'_>) -> u64 {
         0
     }
 }
@@ -40,35 +40,35 @@ pub struct Bank<F, B> {
 }
 
 impl<F: ClassRule, B: Rule> Rule for Bank<F, B> {
-    ghost admits = { λ b x. by_class F.ClassRule.number x (F.Rule.admits b.front x) (B.Rule.admits b.behind x) };
+    ghost admits = { λ b x. by_class F.ClassRule.CLASS x (F.Rule.admits b.front x) (B.Rule.admits b.behind x) };
 
-    ghost wait = { λ b. chosen F.ClassRule.number (F.Rule.wait b.front) (B.Rule.wait b.behind) };
+    ghost wait = { λ b. chosen F.ClassRule.CLASS (F.Rule.wait b.front) (B.Rule.wait b.behind) };
 
-    ghost load = { λ b. chosen F.ClassRule.number (F.Rule.load b.front) (B.Rule.load b.behind) };
+    ghost load = { λ b. chosen F.ClassRule.CLASS (F.Rule.load b.front) (B.Rule.load b.behind) };
 
     ghost lawful = { λ r. bank_law _ _ _ _ _ (F.Rule.lawful r.front) (B.Rule.lawful r.behind) };
 
     fn admits(&self, item: &Item) -> bool {
-        if item.class == F::of_class() {
+        if item.class == F::CLASS {
             self.front.admits(item)
         } else {
             self.behind.admits(item)
         }
     }
 
-    fn wait(&self, items: &[Item], times: &[Times], i: usize) -> u32 {
-        if items[i].class == F::of_class() {
-            self.front.wait(items, times, i)
+    fn wait(&self, asked: Asked<'_>) -> u32 {
+        if asked.mine().item.class == F::CLASS {
+            self.front.wait(asked)
         } else {
-            self.behind.wait(items, times, i)
+            self.behind.wait(asked)
         }
     }
 
-    fn load(&self, items: &[Item], times: &[Times], i: usize) -> u64 {
-        if items[i].class == F::of_class() {
-            self.front.load(items, times, i)
+    fn load(&self, asked: Asked<'_>) -> u64 {
+        if asked.mine().item.class == F::CLASS {
+            self.front.load(asked)
         } else {
-            self.behind.load(items, times, i)
+            self.behind.load(asked)
         }
     }
 }

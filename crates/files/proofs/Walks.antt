@@ -1,30 +1,51 @@
--- How a walk goes on from one record to the next.
-use Rattle.std.proofs.Common.{◌≡◌, ℕ, zero, suc, ◌+◌, ◌<◌, ◌≤◌, List, [], ◌∷◌, length, drop, Ok, Err, Result, refl, ap, arith}
+-- A walk over the bytes of a file is a walk over its records.
+use Rattle.std.proofs.Common.{◌≡◌, ℕ, zero, suc, pred, ◌+◌, ◌≤◌, List, [], ◌∷◌, length, Ok, Err, Result, sym, refl}
+use Rattle.std.proofs.lemmas.Bool.{le-leb}
+use Rattle.records.specs.declared.fault.Fault.{Fault}
 use Rattle.records.specs.declared.fault.Refusal.{Refusal}
 use Rattle.records.specs.declared.fault.SourceFile.{SourceFile}
-use Rattle.files.specs.Rows.{walk}
+use Rattle.records.specs.Records.{Said, record_of}
+use Rattle.records.specs.Rows.{rows_in}
+use Rattle.files.specs.Rows.{step_of, walk, rows_of}
 
-module _ {S : Type 0} (step : List ℕ → S → Result (S × ℕ) Refusal) (file : SourceFile) where
-  -- the bytes of a record are passed over
-  passed : (k at n : ℕ) (bs : List ℕ) (s : S) → at + k ≡ n → k ≤ length bs → walk step file k at bs s ≡ walk step file 0 n (drop k bs) s
-  unfolding walk
-  passed zero at n bs s e h = let d : at ≡ n = omega arith in ap (λ m. walk step file 0 m bs s) d
-  passed (suc k) at n [] s e h = absurd (omega arith)
-  passed (suc k) at n (b ∷ bs) s e h = passed k (at + 1) n bs s (omega arith) (omega arith)
+-- the state after these records, or the first fault
+unfoldable pub taken : {S : Type 0} → (S → Said → Result S Refusal) → SourceFile → List (Result (Said × ℕ) Fault) → S → Result S Fault
+taken takes file [] s = Ok s
+taken takes file (Err fault ∷ rows) s = Err fault
+taken takes file (Ok row ∷ rows) s = elim (takes s row.0) [ Ok t ↦ taken takes file rows t | Err e ↦ Err (record { refusal = e; place = row.1; file = file }) ]
 
-  -- a record that is taken in
-  pub goes : (at n : ℕ) (bs : List ℕ) (s t : S) → 0 < n → n ≤ length bs → Ok (t, n) ≡ step bs s → walk step file 0 at bs s ≡ walk step file 0 (at + n) (drop n bs) t
-  unfolding walk
-  goes at zero bs s t p h e = absurd (omega arith)
-  goes at (suc n) [] s t p h e = absurd (omega arith)
-  goes at (suc n) (b ∷ bs) s t p h e = rw (← e, walk) (passed n (at + 1) (at + suc n) bs t (omega arith) (omega arith))
+module _ {S : Type 0} (takes : S → Said → Result S Refusal) (file : SourceFile) where
+  pub taken_end : (s : S) → taken takes file [] s ≡ Ok s
+  unfolding taken
+  taken_end s = refl
 
-  -- a record that is refused
-  pub stops : (at : ℕ) (bs : List ℕ) (s : S) (r : Refusal) → 0 < length bs → Err r ≡ step bs s → walk step file 0 at bs s ≡ Err (record { refusal = r; place = at; file = file })
-  unfolding walk
-  stops at [] s r p e = absurd (omega arith)
-  stops at (b ∷ bs) s r p e = rw (← e, walk) refl
+  pub taken_fault : (fault : Fault) (rows : List (Result (Said × ℕ) Fault)) (s : S) → taken takes file (Err fault ∷ rows) s ≡ Err fault
+  unfolding taken
+  taken_fault fault rows s = refl
 
-  pub ends : (at : ℕ) (s : S) → walk step file 0 at [] s ≡ Ok s
-  unfolding walk
-  ends at s = refl
+  pub taken_row : (said : Said) (place : ℕ) (rows : List (Result (Said × ℕ) Fault)) (s t : S) → Ok t ≡ takes s said → taken takes file (Ok (said, place) ∷ rows) s ≡ taken takes file rows t
+  unfolding taken
+  taken_row said place rows s t e = rw (← e, taken) refl
+
+  pub taken_refused : (said : Said) (place : ℕ) (rows : List (Result (Said × ℕ) Fault)) (s : S) (e : Refusal) → Err e ≡ takes s said → taken takes file (Ok (said, place) ∷ rows) s ≡ Err (record { refusal = e; place = place; file = file })
+  unfolding taken
+  taken_refused said place rows s r e = rw (← e, taken) refl
+
+  after_row : (said : Said) (n place b : ℕ) (bs : List ℕ) (s : S) (r : Result S Refusal) → Ok (said, n) ≡ record_of file (b ∷ bs) → takes s said ≡ r → ((k : ℕ) (t : S) → walk (step_of takes file) file k (place + 1) bs t ≡ taken takes file (rows_in file k (place + 1) bs) t) → walk (step_of takes file) file 0 place (b ∷ bs) s ≡ taken takes file (rows_in file 0 place (b ∷ bs)) s
+  unfolding walk taken rows_in
+  after_row said n place b bs s (Ok t) read e on = rw (← read, e, walk, rows_in, taken) (on (pred n) t)
+  after_row said n place b bs s (Err f) read e on = rw (← read, e, walk, rows_in, taken) refl
+
+  walked_row : (place b : ℕ) (bs : List ℕ) (s : S) (r : Result (Said × ℕ) Refusal) → record_of file (b ∷ bs) ≡ r → ((k : ℕ) (t : S) → walk (step_of takes file) file k (place + 1) bs t ≡ taken takes file (rows_in file k (place + 1) bs) t) → walk (step_of takes file) file 0 place (b ∷ bs) s ≡ taken takes file (rows_in file 0 place (b ∷ bs)) s
+  unfolding walk taken rows_in
+  walked_row place b bs s (Ok (said, n)) e on = after_row said n place b bs s (takes s said) (sym e) refl on
+  walked_row place b bs s (Err f) e on = rw (e, walk, rows_in, taken) refl
+
+  pub walked : (skip place : ℕ) (bs : List ℕ) (s : S) → walk (step_of takes file) file skip place bs s ≡ taken takes file (rows_in file skip place bs) s
+  unfolding walk taken rows_in
+  walked skip place [] s = refl
+  walked (suc skip) place (b ∷ bs) s = walked skip (place + 1) bs s
+  walked zero place (b ∷ bs) s = walked_row place b bs s (record_of file (b ∷ bs)) refl (λ k t. walked k (place + 1) bs t)
+
+  pub rows_taken : (bs : List ℕ) (s : S) → length bs ≤ 16384 → rows_of takes file bs s ≡ taken takes file (rows_in file 0 0 bs) s
+  rows_taken bs s h = rw (le-leb (length bs) 16384 h) (walked 0 0 bs s)

@@ -1,11 +1,6 @@
 -- The cell file, made into a bank of all the classes.
 use Rattle.std.specs.Prelude.{ℕ, cond, List, replicate, Some, None, Ok, Err, Option, Result, slice_set}
-use Rattle.bank.specs.declared.bank.Bank.{Bank}
-use Rattle.bank.specs.declared.bank.EmptyBank.{EmptyBank}
-use Rattle.rules.specs.declared.can.Can.{Can}
-use Rattle.rules.specs.declared.gateway.Gateway.{Gateway}
-use Rattle.rules.specs.declared.processor.Processor.{Processor}
-use Rattle.rules.specs.declared.table.Table.{Table}
+use Rattle.rules.specs.All.{AllClasses}
 use Rattle.rules.specs.Stations.{is_free}
 use Rattle.files.specs.declared.cell.Classes.{Classes}
 use Rattle.records.specs.declared.fault.Fault.{Fault}
@@ -45,10 +40,18 @@ with_record c (arc a) = Err StrangeKind
 abbrev pub classes_of : List ℕ → Result Classes Fault
 classes_of bs = rows_of with_record Cell bs no_stations
 
-abbrev pub bank_of : Classes → Bank Table (Bank Processor (Bank Can (Bank Gateway EmptyBank)))
+abbrev pub bank_of : Classes → AllClasses
 bank_of c = record { front = c.table; behind = record { front = c.processor; behind = record { front = c.can; behind = record { front = c.gateway; behind = record {} } } } }
 
--- a refused file leaves no station
-abbrev pub or_none : Result Classes Fault → Classes
-or_none (Ok c) = c
-or_none (Err f) = no_stations
+abbrev pub piled : Result Classes Fault → Result AllClasses Fault
+piled (Ok c) = Ok (bank_of c)
+piled (Err f) = Err f
+
+-- the bank that a cell file tells of, or the file's first fault
+abbrev pub cell_of : List ℕ → Result AllClasses Fault
+cell_of bs = piled (classes_of bs)
+
+-- a refused file leaves a bank with no station
+abbrev pub or_none : Result AllClasses Fault → AllClasses
+or_none (Ok b) = b
+or_none (Err f) = bank_of no_stations

@@ -2,7 +2,7 @@
 use Rattle.std.specs.Prelude.{ℕ, ◌+◌, List, [], take, drop}
 use Rattle.records.specs.declared.fault.Fault.{Fault}
 use Rattle.records.specs.declared.fault.Refusal.{Refusal}
-use Rattle.records.specs.declared.fault.Refusal.TheVariants.{TooLong, NotWhole, StrangeKind, WrongLength, OutOfRange, TakenStation, BadName}
+use Rattle.records.specs.declared.fault.Refusal.TheVariants.{TooLong, NotWhole, StrangeKind, WrongLength, OutOfRange, TakenStation, BadName, Call}
 use Rattle.records.specs.declared.fault.SourceFile.{SourceFile}
 use Rattle.records.specs.declared.fault.SourceFile.TheVariants.{Cell, Process}
 use Rattle.records.specs.Bytes.{two}
@@ -24,6 +24,7 @@ part_of WrongLength rest = front_of rest
 part_of OutOfRange rest = front_of rest
 part_of TakenStation rest = front_of rest
 part_of BadName rest = front_of rest
+part_of (Call refusal) rest = front_of rest
 
 abbrev pub faulty_of : Fault → List ℕ → List ℕ → List ℕ
 faulty_of f cell process = part_of f.refusal (drop f.place (file_of f.file cell process))

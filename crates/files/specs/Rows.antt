@@ -19,10 +19,6 @@ answer_of (Err e) = Err e
 abbrev pub step_of : {S : Type 0} → (S → Said → Result S Refusal) → SourceFile → List ℕ → S → Result (S × ℕ) Refusal
 step_of takes file bs s = then (record_of file bs) (λ p. then (takes s p.0) (λ t. Ok (t, p.1)))
 
-abbrev pub step_as : {S : Type 0} → Result ℕ Refusal → S → Result (S × ℕ) Refusal
-step_as (Ok n) s = Ok (s, n)
-step_as (Err e) s = Err e
-
 -- the state after all records, or the first fault: `skip` bytes of a record are still to pass over,
 -- and then the next one stands at `place`
 unfoldable pub walk : {S : Type 0} → (List ℕ → S → Result (S × ℕ) Refusal) → SourceFile → ℕ → ℕ → List ℕ → S → Result S Fault
@@ -35,3 +31,10 @@ walk step file zero place (b ∷ bs) s =
 -- is the file at most 16,384 bytes? then its records in order
 abbrev pub rows_of : {S : Type 0} → (S → Said → Result S Refusal) → SourceFile → List ℕ → S → Result S Fault
 rows_of takes file bs s = cond (nat_le (length bs) 16384) (walk (step_of takes file) file 0 0 bs s) (Err (record { refusal = TooLong; place = 0; file = file }))
+
+-- what the records of a file say, in order, up to the first that is refused for itself; `skip` bytes of one
+-- are still to pass over
+unfoldable pub said_in : SourceFile → ℕ → List ℕ → List Said
+said_in file skip [] = []
+said_in file (suc skip) (b ∷ bs) = said_in file skip bs
+said_in file zero (b ∷ bs) = elim (record_of file (b ∷ bs)) [ Ok p ↦ p.0 ∷ said_in file (pred p.1) bs | Err e ↦ [] ]

@@ -1,5 +1,6 @@
 ghost use Rattle.std.specs.Prelude.{◌≡◌};
-ghost use Rattle.files.specs.Cell.{no_stations, with_record, classes_of, bank_of, or_none};
+ghost use Rattle.files.specs.declared.cell.Classes.{Classes};
+ghost use Rattle.files.specs.Cell.{no_stations, with_record, bank_of, cell_of, or_none};
 ghost use Rattle.files.specs.Rows.{answer_of};
 
 use crate::rows::{Intake, take_all};
@@ -41,22 +42,32 @@ impl Classes {
             },
         }
     }
+}
 
-    fn into_bank(self) -> AllClasses
-        ensures { result ≡ bank_of self }
-    {
+impl From<Classes> for AllClasses {
+    ghost from_gives = { λ classes bank. bank ≡ bank_of classes };
+
+    fn from(classes: Classes) -> AllClasses {
         let Classes {
             table,
             processor,
             can,
             gateway,
-        } = self;
+        } = classes;
         all_classes(table, processor, can, gateway)
     }
 }
 
 impl Intake for Classes {
-    ghost takes = { with_record };
+    ghost Fixed = { Unit {0} };
+
+    ghost fixed = { λ _. tt };
+
+    ghost View = { Classes };
+
+    ghost view = { λ c. c };
+
+    ghost takes = { λ _. with_record };
 
     fn take(&mut self, row: Record<'_>) -> Result<(), Refusal> {
         let Record::Station(new) = row else {
@@ -79,12 +90,12 @@ impl Intake for Classes {
 /// Makes the bank that the cell file tells of: all the classes, each with its stations there. The
 /// bank of a refused file has no station at all.
 pub fn make_bank(file: &[u8]) -> (AllClasses, Result<(), Fault>)
-    ensures bank { result.0 ≡ bank_of (or_none (classes_of file.now)) }
-    ensures answer { result.1 ≡ answer_of (classes_of file.now) }
+    ensures bank { result.0 ≡ or_none (cell_of file.now) }
+    ensures answer { result.1 ≡ answer_of (cell_of file.now) }
 {
     let mut classes = Classes::none();
     match take_all(&mut classes, SourceFile::Cell, file) {
-        Ok(()) => (classes.into_bank(), Ok(())),
-        Err(fault) => (Classes::none().into_bank(), Err(fault)),
+        Ok(()) => (classes.into(), Ok(())),
+        Err(fault) => (Classes::none().into(), Err(fault)),
     }
 }

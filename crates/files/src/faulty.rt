@@ -18,11 +18,7 @@ fn pick<'a>(cell: &'a [u8], process: &'a [u8], file: SourceFile) -> &'a [u8]
 fn from_place<'a>(bytes: &'a [u8], place: usize) -> &'a [u8]
     ensures { result.now ≡ drop place bytes.now }
 {
-    if place > bytes.len() {
-        &[]
-    } else {
-        &bytes[place..]
-    }
+    bytes.get(place..).unwrap_or(&[])
 }
 
 /// The record in front with its head, or all bytes where it is not whole.

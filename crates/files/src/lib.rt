@@ -3,6 +3,7 @@
 
 pub mod cell;
 pub mod faulty;
+pub mod names;
 pub mod process;
 mod rows;
 #[cfg(test)]

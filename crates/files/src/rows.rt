@@ -1,27 +1,28 @@
-ghost use Rattle.std.specs.Prelude.{◌≡◌, ◌<◌, ◌≤◌, length, IfOk, Result};
+ghost use Rattle.std.specs.Prelude.{◌≡◌, Result};
 ghost use Rattle.records.specs.declared.fault.Refusal.{Refusal};
 ghost use Rattle.records.specs.Records.{Said, said};
-ghost use Rattle.files.specs.Rows.{left_as, step_of, step_as, rows_of};
+ghost use Rattle.files.specs.Rows.{left_as, rows_of};
 
 use records::fault::{Fault, Refusal, SourceFile};
-use records::record::{Record, first_record};
+use records::record::Record;
+use records::rows::{Row, Rows};
 
-/// What takes in the records of a file, one after the other.
+/// What takes in the records of a file, one after the other. Its view is what they change; beside it
+/// stands what none of them changes.
 pub(crate) trait Intake {
-    ghost takes: { Self → Said → Result Self Refusal };
+    ghost Fixed: { Type 0 };
+
+    ghost fixed: { Self → Fixed };
+
+    ghost View: { Type 0 };
+
+    ghost view: { Self → View };
+
+    ghost takes: { Fixed → View → Said → Result View Refusal };
 
     fn take(&mut self, row: Record<'_>) -> Result<(), Refusal>
-        ensures { left_as result self.new ≡ takes self.old (said row.entry) };
-}
-
-/// Takes in the record in front, and tells how many bytes it has.
-fn take_first<I: Intake>(intake: &mut I, file: SourceFile, bytes: &[u8]) -> Result<usize, Refusal>
-    ensures value { step_as result intake.new ≡ step_of I.Intake.takes file bytes.now intake.old }
-    ensures within { IfOk result (λ n. (0 < n) × (n ≤ length bytes.now)) }
-{
-    let (row, length) = first_record(file, bytes)?;
-    intake.take(row)?;
-    Ok(length)
+        ensures view { left_as result (view self.new) ≡ takes (fixed self.old) (view self.old) (said row.entry) }
+        ensures fixed { fixed self.new ≡ fixed self.old };
 }
 
 /// Takes in all records of a file, up to the first fault.
@@ -30,7 +31,8 @@ pub(crate) fn take_all<I: Intake>(
     file: SourceFile,
     bytes: &[u8],
 ) -> Result<(), Fault>
-    ensures { left_as result intake.new ≡ rows_of I.Intake.takes file bytes.now intake.old }
+    ensures view { left_as result (I.Intake.view intake.new) ≡ rows_of (I.Intake.takes (I.Intake.fixed intake.old)) file bytes.now (I.Intake.view intake.old) }
+    ensures fixed { I.Intake.fixed intake.new ≡ I.Intake.fixed intake.old }
 {
     if bytes.len() > 16_384 {
         return Err(Fault {
@@ -39,15 +41,14 @@ pub(crate) fn take_all<I: Intake>(
             file,
         });
     }
-    let mut place = 0;
-    while place < bytes.len() {
-        match take_first(intake, file, &bytes[place..]) {
-            Ok(length) => place += length,
-            Err(refusal) => return Err(Fault {
+    for row in Rows::new(file, bytes) {
+        let Row { record, place } = row?;
+        if let Err(refusal) = intake.take(record) {
+            return Err(Fault {
                 refusal,
                 place,
                 file,
-            }),
+            });
         }
     }
     Ok(())

@@ -1,8 +1,8 @@
 ghost use Rattle.flat.specs.Flatly.{flat_admits, flat_wait, flat_load, flat_law};
 
+use model::asked::Asked;
 use model::item::Item;
 use model::rule::Rule;
-use model::times::Times;
 
 /// Every item waits the same stretch, and queues its own bytes only. A record of 255 bytes is not
 /// admitted.
@@ -24,11 +24,11 @@ impl Rule for Flat {
         item.size != 255
     }
 
-    fn wait(&self, _items: &[Item], _times: &[Times], _i: usize) -> u32 {
+    fn wait(&self, _asked: Asked<'_>) -> u32 {
         self.stretch.min(1_000_001)
     }
 
-    fn load(&self, items: &[Item], _times: &[Times], i: usize) -> u64 {
-        items[i].size as u64
+    fn load(&self, asked: Asked<'_>) -> u64 {
+        u64::from(asked.mine().item.size)
     }
 }

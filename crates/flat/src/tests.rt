@@ -1,5 +1,6 @@
 use crate::flat::Flat;
 use model::item::Item;
+use model::queue::Queue;
 use promise::outcome::{Became, Cause, Ending, Line, QueueBound, Refusal, RunResult};
 use sheet::sheet::Sheet;
 
@@ -24,6 +25,14 @@ fn item(priority: u8, duration: u32) -> Item {
         held: 0,
         offset: 0,
         deadline: 100,
+    }
+}
+
+fn queue(class: u8, station: u8, queue: u8) -> Queue {
+    Queue {
+        class,
+        station,
+        queue,
     }
 }
 
@@ -240,7 +249,10 @@ fn a_late_input_breaks_the_sheet_until_an_entry(rt: HostRuntime) {
         )
     );
     assert_eq!(rt; sheet.times(&mut [BLANK; 2]), Err(Refusal::SheetBroken));
-    assert_eq!(rt; sheet.queue_bound(1, 0, 0), Err(Refusal::SheetBroken));
+    assert_eq!(rt;
+        sheet.queue_bound(queue(1, 0, 0)),
+        Err(Refusal::SheetBroken)
+    );
     assert_eq!(rt; sheet.entry(item(3, 10)), Ok(2));
     assert_eq!(rt; sheet.step(0), Ok((Became::Raised, 15)));
 }
@@ -307,11 +319,11 @@ fn a_queue_bound_names_the_first_item_that_reaches_it(rt: HostRuntime) {
         }),
         Ok(3)
     );
-    assert_eq!(rt; sheet.queue_bound(1, 0, 0), Err(Refusal::NotSettled));
+    assert_eq!(rt; sheet.queue_bound(queue(1, 0, 0)), Err(Refusal::NotSettled));
     assert!(rt; sheet.run(sheet.enough()).is_ok());
     assert_eq!(rt;
-        sheet.queue_bound(1, 0, 0),
+        sheet.queue_bound(queue(1, 0, 0)),
         Ok(Some(QueueBound { bytes: 7, item: 1 }))
     );
-    assert_eq!(rt; sheet.queue_bound(1, 0, 2), Ok(None));
+    assert_eq!(rt; sheet.queue_bound(queue(1, 0, 2)), Ok(None));
 }

@@ -1,9 +1,10 @@
 ghost use Rattle.std.specs.Prelude.{◌≡◌, map, length, take};
-ghost use Rattle.page.specs.Reports.{rows_in, told as told_by};
+ghost use Rattle.page.specs.Reports.{told as told_by};
+ghost use Rattle.page.specs.Rows.{row_as};
 ghost use Rattle.report.specs.Pages.{report_of};
 ghost use Rattle.linked.specs.Linked.{times_of, Tells};
 
-use page::page::{Outcome, Report, Rows};
+use page::page::{Report, Row, Rows};
 use report::tell::tell;
 
 /// The times of one item, and its deadline.
@@ -17,6 +18,7 @@ pub struct ToldTimes {
 }
 
 /// What a caller is told of the page that two files come to.
+// Kept as a number, and a count beside the table: callers in C read them so.
 #[repr(C)]
 #[derive(Drop)]
 pub struct Told {
@@ -29,43 +31,51 @@ pub struct Told {
     pub times: [ToldTimes; 64],
 }
 
-/// Writes the times of the rows in use, and tells how many there are.
-fn fill(rows: &Rows<'_>, times: &mut [ToldTimes; 64]) -> usize
-    ensures count { result ≡ length (rows_in rows.now) }
-    ensures times { take result times.new ≡ map times_of (rows_in rows.now) }
-{
-    let count = rows.count.min(64);
-    for i in 0..count {
-        let line = rows.lines[i];
-        times[i] = ToldTimes {
-            late: line.late,
-            wait: line.wait,
-            end: line.end,
-            limit: rows.limits[i],
-        };
+impl From<&Row<'_>> for ToldTimes {
+    ghost from_gives = { λ row times. times ≡ times_of (row_as row.now) };
+
+    fn from(row: &Row<'_>) -> Self {
+        ToldTimes {
+            late: row.late,
+            wait: row.wait,
+            end: row.end,
+            limit: row.limit,
+        }
     }
-    count
+}
+
+/// Writes the times of the rows from the front on, and tells how many there are.
+fn fill(page: &Rows<'_>, times: &mut [ToldTimes; 64]) -> usize
+    ensures count { result ≡ length page.now }
+    ensures times { take result times.new ≡ map times_of page.now }
+{
+    let rows = page.as_slice();
+    // Not a zip with `iter_mut`: of the values behind one in a chain a proof learns nothing.
+    for (i, row) in rows.iter().enumerate() {
+        times[i] = ToldTimes::from(row);
+    }
+    rows.len()
 }
 
 fn write(report: &Report<'_>, told: &mut Told)
     ensures { Tells told.new (told_by report.now) }
 {
-    match report.outcome {
-        Outcome::Settled { steps } => {
+    match report {
+        Report::Settled { rows, steps } => {
             told.outcome = 0;
-            told.count = fill(&report.rows, &mut told.times);
-            told.steps = steps;
+            told.count = fill(rows, &mut told.times);
+            told.steps = *steps;
         }
-        Outcome::Broken {
+        Report::Broken {
             name: _,
             cause: _,
             steps,
         } => {
             told.outcome = 1;
             told.count = 0;
-            told.steps = steps;
+            told.steps = *steps;
         }
-        Outcome::Refused(_) => {
+        Report::Refused(_) => {
             told.outcome = 2;
             told.count = 0;
             told.steps = 0;

@@ -1,5 +1,5 @@
 -- Items, and what a pair of times says of one.
-use Rattle.std.specs.Prelude.{ℕ, ◌+◌, ◌-◌, ◌<◌, ◌≤◌, Bool, ◌&&◌, nat_le, nat_lt}
+use Rattle.std.specs.Prelude.{ℕ, ◌+◌, ◌-◌, ◌<◌, ◌≤◌, Bool, ◌&&◌, ◌==◌, nat_le, nat_lt}
 use Rattle.model.specs.declared.arc.Arc.{Arc}
 use Rattle.model.specs.declared.item.Item.{Item}
 use Rattle.model.specs.declared.times.Times.{Times}
@@ -33,6 +33,14 @@ has_limits x = nat_le 1 x.duration && nat_le x.duration x.deadline && nat_le x.d
 -- the mark is one of the two, held is within the duration, and the offset within the period
 abbrev pub has_start : Item → Bool
 has_start x = nat_le x.mark 1 && nat_le x.held x.duration && nat_lt x.offset x.period
+
+-- the two use the same resource
+abbrev pub shares_station : Item → Item → Bool
+shares_station x y = x.class == y.class && x.station == y.station
+
+-- an item of this class, station and queue
+abbrev pub is_there : ℕ → ℕ → ℕ → Item → Bool
+is_there class station queue x = x.class == class && x.station == station && x.queue == queue
 
 -- in the logic a field is any number, so that these are bytes is to be said
 pub record Bytes (x : Item) : Type 0 where

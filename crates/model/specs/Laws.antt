@@ -4,6 +4,10 @@ use Rattle.model.specs.declared.item.Item.{Item}
 use Rattle.model.specs.declared.times.Times.{Times}
 use Rattle.model.specs.Items.{no_item, no_times, Valid}
 
+pub record Small (t : Times) : Type 0 where
+  pub late : t.late ≤ 1000000
+  pub wait : t.wait ≤ 1000000
+
 -- what a rule may be handed: at most 64 valid records, and one pair of times up to 1,000,000 for each
 pub record Handed (items : List Item) (times : List Times) : Type 0 where
   pub few : length items ≤ 64

@@ -1,15 +1,17 @@
 ghost use Rattle.std.specs.Prelude.{◌≡◌, true};
-ghost use Rattle.model.specs.Items.{has_period, has_limits, has_start, Valid};
+ghost use Rattle.model.specs.Items.{has_period, has_limits, has_start, shares_station, Valid};
 
 /// An item is one activity of the machine: a process, or a message on one hop. All its times are
 /// counted in ticks of 1 µs.
-#[derive(Clone, Copy)]
+#[derive(Clone, Copy, Default)]
 pub struct Item {
     /// Which kind of resource it uses.
+    // Kept as a number: any record may be entered, and each rule has classes of its own.
     pub class: u8,
     /// Which resource of that class.
     pub station: u8,
     /// 1: released at its offset and at no other time; 0: at its offset or later.
+    // Kept as a number: any record may be entered, and a mark above 1 is refused by its question.
     pub mark: u8,
     /// Smaller numbers are stronger.
     pub priority: u8,
@@ -31,7 +33,7 @@ impl Item {
     pub fn has_period(&self) -> bool
         ensures { result ≡ has_period self.now }
     {
-        1 <= self.period && self.period <= 1_000_000
+        (1..=1_000_000).contains(&self.period)
     }
 
     /// Do duration, deadline and period follow each other in size, from 1 on?
@@ -46,6 +48,13 @@ impl Item {
         ensures { result ≡ has_start self.now }
     {
         self.mark <= 1 && self.held <= self.duration && self.offset < self.period
+    }
+
+    /// Is the other item of the same class and station?
+    pub fn shares_station(&self, other: &Item) -> bool
+        ensures { result ≡ shares_station self.now other.now }
+    {
+        self.class == other.class && self.station == other.station
     }
 
     /// Are all three answered with yes?

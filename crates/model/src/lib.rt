@@ -2,6 +2,8 @@
 #![tactic(auto)]
 
 pub mod arc;
+pub mod asked;
 pub mod item;
+pub mod queue;
 pub mod rule;
 pub mod times;

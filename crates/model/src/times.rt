@@ -4,7 +4,7 @@ ghost use Rattle.model.specs.Items.{end_of, jitter_of};
 use crate::item::Item;
 
 /// What a set of times gives one item.
-#[derive(Clone, Copy)]
+#[derive(Clone, Copy, Default)]
 pub struct Times {
     /// The late time: its latest release.
     pub late: u32,
@@ -17,7 +17,8 @@ impl Times {
     pub fn end(&self, item: &Item) -> u64
         ensures { result ≡ end_of item.now self.now }
     {
-        self.late as u64 + self.wait as u64 + item.duration as u64
+        let duration = item.duration;
+        u64::from(self.late) + u64::from(self.wait) + u64::from(duration)
     }
 
     /// How far its release may move.

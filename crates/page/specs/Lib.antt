@@ -1,3 +1,4 @@
 pub mod Pages
 pub mod Texts
+pub mod Rows
 pub mod Reports

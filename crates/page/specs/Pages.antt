@@ -1,7 +1,8 @@
 -- A page: the rows of a settled sheet, or how else it came out.
-use Rattle.std.specs.Prelude.{ℕ, zero, suc, List, [], ◌∷◌, ◌++◌}
+use Rattle.std.specs.Prelude.{ℕ, List, map}
+use Rattle.std.specs.List.{range_with_len}
 use Rattle.promise.specs.declared.outcome.Cause.{Cause}
-use Rattle.records_next.specs.declared.fault.Fault.{Fault}
+use Rattle.records.specs.declared.fault.Fault.{Fault}
 
 -- one line: an item by its name, with its late time, wait, end and deadline
 pub record Row : Type 0 where
@@ -19,5 +20,4 @@ pub data Page : Type 0 where
 
 -- the rows of the items below n
 abbrev pub rows_to : (ℕ → Row) → ℕ → List Row
-rows_to row zero = []
-rows_to row (suc n) = rows_to row n ++ (row n ∷ [])
+rows_to row n = map row (range_with_len 0 n)

@@ -1,21 +1,15 @@
-ghost use Rattle.std.specs.Prelude.{◌≡◌, ◌<◌};
+ghost use Rattle.std.specs.Prelude.{◌≡◌, ◌≤◌, length, map};
 ghost use Rattle.page.specs.Pages.{settled as settled_page, broken as broken_page, refused as refused_page};
-ghost use Rattle.page.specs.Reports.{row_as, row_in, used as used_of, rows_in, told};
+ghost use Rattle.page.specs.Reports.{told};
+ghost use Rattle.page.specs.Rows.{row_as, row_with};
 
+use arrayvec::ArrayVec;
 use promise::outcome::{Cause, Line};
-use records_next::fault::Fault;
-
-/// The items of a settled sheet in rows: the name, the line and the deadline of each.
-#[derive(Clone, Copy)]
-pub struct Rows<'a> {
-    pub count: usize,
-    pub names: [&'a str; 64],
-    pub lines: [Line; 64],
-    pub limits: [u32; 64],
-}
+use records::fault::Fault;
+use std::marker::Model;
 
 /// The row of one item.
-#[derive(Clone, Copy)]
+#[derive(Clone, Copy, Default)]
 pub struct Row<'a> {
     pub name: &'a str,
     pub late: u32,
@@ -24,10 +18,60 @@ pub struct Row<'a> {
     pub limit: u32,
 }
 
-/// How it came out.
-#[derive(Clone, Copy)]
-pub enum Outcome<'a> {
+impl<'a> Row<'a> {
+    /// The row of an item with this name, these times and this deadline.
+    pub fn new(name: &'a str, line: Line, limit: u32) -> Row<'a>
+        ensures { row_as result ≡ row_with name.now line limit }
+    {
+        Row {
+            name,
+            late: line.late,
+            wait: line.wait,
+            end: line.end,
+            limit,
+        }
+    }
+}
+
+/// The items of a settled sheet in rows; there is room for 64.
+#[derive(Drop)]
+pub struct Rows<'a> {
+    rows: ArrayVec<Row<'a>, 64>,
+}
+
+impl<'a> Model for Rows<'a> {
+    ghost use Rattle.std.specs.Prelude.{List, map};
+    ghost use Rattle.page.specs.Pages.{Row as PageRow};
+    ghost use Rattle.page.specs.Rows.{row_as};
+
+    ghost Value = { List PageRow };
+
+    ghost view = { λ r. map row_as r.rows.items };
+}
+
+impl<'a> From<ArrayVec<Row<'a>, 64>> for Rows<'a> {
+    ghost from_gives = { λ vec rows. rows ≡ map row_as vec.items };
+
+    fn from(rows: ArrayVec<Row<'a>, 64>) -> Self {
+        Rows { rows }
+    }
+}
+
+impl<'a> Rows<'a> {
+    /// The rows, from the first to the last.
+    pub fn as_slice(&self) -> &[Row<'a>]
+        ensures rows { map row_as result.now ≡ self.now }
+        ensures few { length self.now ≤ 64 }
+    {
+        &self.rows
+    }
+}
+
+/// What two files come to.
+#[derive(Drop)]
+pub enum Report<'a> {
     Settled {
+        rows: Rows<'a>,
         steps: u64,
     },
     /// The name of the item at which the run broke, and why.
@@ -40,77 +84,22 @@ pub enum Outcome<'a> {
     Refused(Fault),
 }
 
-/// What two files come to.
-#[derive(Clone, Copy)]
-pub struct Report<'a> {
-    pub outcome: Outcome<'a>,
-    /// Of use where the outcome is settled.
-    pub rows: Rows<'a>,
-}
-
-impl<'a> Rows<'a> {
-    /// No row.
-    fn none() -> Rows<'a> {
-        Rows {
-            count: 0,
-            names: [""; 64],
-            lines: [Line {
-                number: 0,
-                late: 0,
-                wait: 0,
-                end: 0,
-            }; 64],
-            limits: [0; 64],
-        }
-    }
-
-    pub(crate) fn row(&self, i: usize) -> Row<'a>
-        requires { i < 64 }
-        ensures { row_as result ≡ row_in self.now i }
-    {
-        let line = self.lines[i];
-        Row {
-            name: self.names[i],
-            late: line.late,
-            wait: line.wait,
-            end: line.end,
-            limit: self.limits[i],
-        }
-    }
-
-    /// How many rows are in use; there is room for 64.
-    pub(crate) fn used(&self) -> usize
-        ensures { result ≡ used_of self.now }
-    {
-        self.count.min(64)
-    }
-}
-
 impl<'a> Report<'a> {
     pub fn settled(rows: Rows<'a>, steps: u64) -> Report<'a>
-        ensures { told result ≡ settled_page (rows_in rows.entry) steps }
+        ensures { told result ≡ settled_page rows.entry steps }
     {
-        Report {
-            outcome: Outcome::Settled { steps },
-            rows,
-        }
+        Report::Settled { rows, steps }
     }
 
     pub fn broken(name: &'a str, cause: Cause, steps: u64) -> Report<'a>
         ensures { told result ≡ broken_page name.now cause steps }
     {
-        Report {
-            outcome: Outcome::Broken { name, cause, steps },
-            rows: Rows::none(),
-        }
+        Report::Broken { name, cause, steps }
     }
 
     pub fn refused(fault: Fault) -> Report<'a>
         ensures { told result ≡ refused_page fault }
     {
-        Report {
-            outcome: Outcome::Refused(fault),
-            rows: Rows::none(),
-        }
+        Report::Refused(fault)
     }
 }

@@ -5,7 +5,7 @@ use Rattle.std.proofs.lemmas.Bool.{ltb-true, cases_Bool, not-true}
 use Rattle.model.specs.declared.arc.Arc.{Arc}
 use Rattle.model.specs.declared.item.Item.{Item}
 use Rattle.model.specs.declared.times.Times.{Times}
-use Rattle.model.specs.Items.{no_item, no_times}
+use Rattle.model.specs.Items.{no_item, no_times, is_there}
 use Rattle.model.specs.Laws.{Below, Monotone, Law}
 use Rattle.model.specs.Lawful.{late_at, wait_at, end_at, Lawful}
 use Rattle.model.proofs.Folds.{largest_to_rises, cond_rises}
@@ -19,7 +19,7 @@ use Rattle.promise.specs.declared.outcome.RunResult.{RunResult}
 use Rattle.promise.specs.State.{State, Meaning, empty, item_at, times_at}
 use Rattle.promise.specs.Steps.{found, outcome, stepped, is_quiet}
 use Rattle.promise.specs.Runs.{Ran, run_of}
-use Rattle.promise.specs.Calls.{ask, is_there, step_ask, run_ask, settled_ask, run_answer, bound_to, Call, entry, arc, change, step, run, times, queue_bound, Made, AllMade, after, after_all}
+use Rattle.promise.specs.Calls.{ask, step_ask, run_ask, settled_ask, run_answer, bound_to, Call, entry, arc, change, step, run, times, queue_bound, Made, AllMade, after, after_all}
 use Rattle.promise.specs.Promise.{LawfulFor, IsSettled, room, enough, load_there, bound_of, Tells, Decided, RunKept, BoundKept, AnswerKept, Kept, Agree, Promised, Leaves}
 use Rattle.promise.proofs.Latest.{end_mono}
 use Rattle.promise.proofs.Judged.{Told, told}

@@ -2,7 +2,7 @@
 use Rattle.std.specs.Prelude.{◌≡◌, ℕ, zero, suc, ◌<◌, Bool, true, cond, not, ◌&&◌, List, [], ◌∷◌, ◌++◌, length, get_or, drop, Some, None, Ok, Err, Option, Result, ◌==◌, nat_le, nat_lt, slice_index_or, slice_set}
 use Rattle.model.specs.declared.arc.Arc.{Arc}
 use Rattle.model.specs.declared.item.Item.{Item}
-use Rattle.model.specs.Items.{no_item, no_arc, has_period, has_limits, has_start, Bytes}
+use Rattle.model.specs.Items.{no_item, no_arc, has_period, has_limits, has_start, is_there, Bytes}
 use Rattle.model.specs.Lawful.{late_at, wait_at, end_at}
 use Rattle.promise.specs.declared.outcome.Became.{Became}
 use Rattle.promise.specs.declared.outcome.Line.{Line}
@@ -120,10 +120,6 @@ pub record Filled (s : State) (before after : List Line) : Type 0 where
 abbrev pub Rows : State → Result (Unit {0}) Refusal → List Line → List Line → Type 0
 Rows s (Ok u) before after = Filled s before after
 Rows s (Err e) before after = after ≡ before
-
--- an item of this class, station and queue
-abbrev pub is_there : ℕ → ℕ → ℕ → Item → Bool
-is_there class station queue x = x.class == class && x.station == station && x.queue == queue
 
 -- a load that is larger than the bound so far takes its place
 abbrev pub larger : Option QueueBound → ℕ → ℕ → Option QueueBound

@@ -1,4 +1,5 @@
 pub mod Refusals
+pub mod Causes
 pub mod State
 pub mod Steps
 pub mod Runs

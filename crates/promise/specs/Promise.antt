@@ -1,7 +1,7 @@
 -- The promise, in words of lawful sets and lists of calls.
 use Rattle.std.specs.Prelude.{◌≡◌, ℕ, ◌+◌, ◌-◌, ◌*◌, ◌<◌, ◌≤◌, true, false, cond, List, length, Some, None, Ok, sum_by, Option, slice_index_or}
 use Rattle.model.specs.declared.times.Times.{Times}
-use Rattle.model.specs.Items.{no_item}
+use Rattle.model.specs.Items.{no_item, is_there}
 use Rattle.model.specs.Laws.{Below}
 use Rattle.model.specs.Lawful.{late_at, wait_at, end_at, Lawful}
 use Rattle.model.specs.Folds.{largest_to}
@@ -12,7 +12,7 @@ use Rattle.promise.specs.declared.outcome.QueueBound.{QueueBound}
 use Rattle.promise.specs.declared.outcome.RunResult.{RunResult}
 use Rattle.promise.specs.State.{State, Meaning, empty}
 use Rattle.promise.specs.Runs.{run_of}
-use Rattle.promise.specs.Calls.{Call, entry, arc, change, step, run, times, queue_bound, is_there, all_quiet, step_answer, run_answer, times_answer, bound_answer, AllMade, after, after_all}
+use Rattle.promise.specs.Calls.{Call, entry, arc, change, step, run, times, queue_bound, all_quiet, step_answer, run_answer, times_answer, bound_answer, AllMade, after, after_all}
 
 -- the lawful sets of a sheet as it stands
 abbrev pub LawfulFor : Meaning → State → List Times → Type 0

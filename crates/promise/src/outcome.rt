@@ -1,60 +1,48 @@
-ghost use Rattle.std.specs.Prelude.{◌≡◌};
+ghost use Rattle.std.specs.Prelude.{◌≡◌, Some};
 ghost use Rattle.promise.specs.Refusals.{number_of};
+ghost use Rattle.promise.specs.Causes.{cause_text};
+
+use std::fmt;
 
 /// Why a call was refused: the first condition that does not hold.
 #[derive(Clone, Copy, Debug, PartialEq, Eq)]
 pub enum Refusal {
     /// 64 items are entered already.
-    ManyItems,
+    ManyItems = 8,
     /// The period is 0 or above 1,000,000.
-    BadPeriod,
+    BadPeriod = 9,
     /// The duration is 0 or above the deadline, or the deadline above the period.
-    BadLimits,
+    BadLimits = 10,
     /// The mark is above 1, held above the duration, or the offset not within the period.
-    BadStart,
+    BadStart = 11,
     /// Another item of the class and station has this priority.
-    TakenPriority,
+    TakenPriority = 12,
     /// The rule does not take the record.
-    NotAdmitted,
+    NotAdmitted = 13,
     /// No item has this number.
-    NoItem,
+    NoItem = 14,
     /// A change would alter class, station, mark or period.
-    FixedFields,
+    FixedFields = 15,
     /// The arc does not lead to a larger number, or the two periods differ.
-    BadArc,
+    BadArc = 16,
     /// The arc is there already.
-    KnownArc,
+    KnownArc = 17,
     /// 128 arcs are there already.
-    ManyArcs,
+    ManyArcs = 18,
     /// The sheet is broken.
-    SheetBroken,
+    SheetBroken = 19,
     /// A step on some item would not be quiet.
-    NotSettled,
+    NotSettled = 20,
     /// The caller's table has fewer records than there are items.
-    ShortTable,
+    ShortTable = 21,
 }
 
 impl Refusal {
-    /// The number of the question.
+    /// The number of the question, by which a fault is printed.
     pub fn number(self) -> u8
         ensures { result ≡ number_of self }
     {
-        match self {
-            Refusal::ManyItems => 8,
-            Refusal::BadPeriod => 9,
-            Refusal::BadLimits => 10,
-            Refusal::BadStart => 11,
-            Refusal::TakenPriority => 12,
-            Refusal::NotAdmitted => 13,
-            Refusal::NoItem => 14,
-            Refusal::FixedFields => 15,
-            Refusal::BadArc => 16,
-            Refusal::KnownArc => 17,
-            Refusal::ManyArcs => 18,
-            Refusal::SheetBroken => 19,
-            Refusal::NotSettled => 20,
-            Refusal::ShortTable => 21,
-        }
+        self as u8
     }
 }
 
@@ -65,6 +53,17 @@ pub enum Cause {
     Input,
     /// An item would end after its deadline.
     Limit,
+}
+
+impl fmt::Display for Cause {
+    ghost output = { λ c. Some (cause_text c) };
+
+    fn fmt<W: fmt::Write>(&self, f: &mut fmt::Formatter<W>) -> fmt::Result {
+        f.write_str(match self {
+            Cause::Input => "input",
+            Cause::Limit => "limit",
+        })
+    }
 }
 
 /// What became of an item by a step.
@@ -94,7 +93,7 @@ pub struct RunResult {
 }
 
 /// The times of one item.
-#[derive(Clone, Copy, Debug, PartialEq, Eq)]
+#[derive(Clone, Copy, Debug, Default, PartialEq, Eq)]
 pub struct Line {
     pub number: usize,
     pub late: u32,

@@ -1,10 +1,11 @@
 -- Refusals by their numbers, and what is printed of a fault.
 use Rattle.std.specs.Prelude.{ℕ, cond, List, ◌++◌, codes, decimal, ◌==◌, nat_le}
+use Rattle.promise.specs.Refusals.{number_of as call_number_of}
 use Rattle.records.specs.declared.fault.Fault.{Fault}
 use Rattle.records.specs.declared.fault.Layer.{Layer}
 use Rattle.records.specs.declared.fault.Layer.TheVariants.{File, Bank, Sheet}
 use Rattle.records.specs.declared.fault.Refusal.{Refusal}
-use Rattle.records.specs.declared.fault.Refusal.TheVariants.{TooLong, NotWhole, StrangeKind, WrongLength, OutOfRange, TakenStation, BadName}
+use Rattle.records.specs.declared.fault.Refusal.TheVariants.{TooLong, NotWhole, StrangeKind, WrongLength, OutOfRange, TakenStation, BadName, Call}
 use Rattle.records.specs.declared.fault.SourceFile.{SourceFile}
 use Rattle.records.specs.declared.fault.SourceFile.TheVariants.{Cell, Process}
 
@@ -17,6 +18,7 @@ number_of WrongLength = 4
 number_of OutOfRange = 5
 number_of TakenStation = 6
 number_of BadName = 7
+number_of (Call refusal) = call_number_of refusal
 
 -- who puts a question: the file 1 to 7, the bank 13, the sheet the others
 abbrev pub layer_of : ℕ → Layer

@@ -1,22 +1,12 @@
-ghost use Rattle.std.specs.Prelude.{◌≡◌, ◌+◌, ◌<◌, ◌≤◌, length, take, IfSome, MatchOption};
+ghost use Rattle.std.specs.Prelude.{◌≡◌, ◌+◌, ◌≤◌, length, IfSome};
 ghost use Rattle.records.specs.Bytes.{four, cut_of, seen};
 
 /// A record as it lies in its file: kind and body.
 #[derive(Clone, Copy)]
 pub struct Raw<'a> {
+    // Kept as a number: a record of any kind can be whole, and `read` asks for the kind later.
     pub kind: u16,
     pub body: &'a [u8],
-}
-
-/// The first `n` bytes, if there are so many.
-fn front<'a>(bytes: &'a [u8], n: usize) -> Option<&'a [u8]>
-    ensures { MatchOption result (length bytes.now < n) (λ b. (n ≤ length bytes.now) × (b.now ≡ take n bytes.now)) }
-{
-    if n > bytes.len() {
-        None
-    } else {
-        Some(&bytes[0..n])
-    }
 }
 
 /// The record in front, or nothing where it is not whole.
@@ -27,7 +17,8 @@ pub fn cut<'a>(bytes: &'a [u8]) -> Option<Raw<'a>>
     let [l0, l1, k0, k1, after @ ..] = bytes else {
         return None;
     };
-    let body = front(after, u16::from_le_bytes([*l0, *l1]) as usize)?;
+    let length = usize::from(u16::from_le_bytes([*l0, *l1]));
+    let body = after.get(..length)?;
     Some(Raw {
         kind: u16::from_le_bytes([*k0, *k1]),
         body,

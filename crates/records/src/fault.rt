@@ -1,6 +1,8 @@
 ghost use Rattle.std.specs.Prelude.{◌≡◌, Some};
+ghost use Rattle.records.specs.declared.fault.Refusal.TheVariants.{Call};
 ghost use Rattle.records.specs.Faults.{name_of, number_of, layer_of, fault_text};
 
+use promise::outcome;
 use std::fmt;
 
 /// Which of the two files.
@@ -20,6 +22,8 @@ pub enum Refusal {
     OutOfRange,
     TakenStation,
     BadName,
+    /// The entry or the arc that the record asks for.
+    Call(outcome::Refusal),
 }
 
 /// Who put the question.
@@ -51,6 +55,22 @@ impl SourceFile {
     }
 }
 
+impl fmt::Display for SourceFile {
+    ghost output = { λ f. Some (name_of f) };
+
+    fn fmt<W: fmt::Write>(&self, f: &mut fmt::Formatter<W>) -> fmt::Result {
+        f.write_str(self.name())
+    }
+}
+
+impl From<outcome::Refusal> for Refusal {
+    ghost from_gives = { λ asked told. told ≡ Call asked };
+
+    fn from(asked: outcome::Refusal) -> Refusal {
+        Refusal::Call(asked)
+    }
+}
+
 impl Refusal {
     /// The number of the question.
     pub fn number(self) -> u8
@@ -64,18 +84,8 @@ impl Refusal {
             Refusal::OutOfRange => 5,
             Refusal::TakenStation => 6,
             Refusal::BadName => 7,
+            Refusal::Call(refusal) => refusal.number(),
         }
-    }
-}
-
-/// Who puts the question with this number.
-fn layer_of(number: u8) -> Layer
-    ensures { result ≡ layer_of number }
-{
-    match number {
-        1..=7 => Layer::File,
-        13 => Layer::Bank,
-        _ => Layer::Sheet,
     }
 }
 
@@ -84,7 +94,11 @@ impl Fault {
     pub fn layer(&self) -> Layer
         ensures { result ≡ layer_of (number_of self.now.refusal) }
     {
-        layer_of(self.refusal.number())
+        match self.refusal {
+            Refusal::Call(outcome::Refusal::NotAdmitted) => Layer::Bank,
+            Refusal::Call(_) => Layer::Sheet,
+            _ => Layer::File,
+        }
     }
 }
 
@@ -92,7 +106,7 @@ impl fmt::Display for Fault {
     ghost output = { λ f. Some (fault_text f) };
 
     fn fmt<W: fmt::Write>(&self, f: &mut fmt::Formatter<W>) -> fmt::Result {
-        let file = self.file.name();
+        let file = self.file;
         let place = self.place;
         let number = self.refusal.number();
         write!(f, "fault {file} {place} {number}")

@@ -1,4 +1,5 @@
-ghost use Rattle.std.specs.Prelude.{◌≡◌, true, false, MatchOption};
+ghost use Rattle.std.specs.Prelude.{◌≡◌, true, false, MatchResult};
+ghost use Rattle.records.specs.declared.fault.Refusal.TheVariants.{BadName};
 ghost use Rattle.records.specs.Items.{is_letter, is_name, item_of, item_as};
 
 use crate::bytes::long;
@@ -14,16 +15,22 @@ fn is_letter(byte: u8) -> bool
     matches!(byte, b'a'..=b'z' | b'0'..=b'9' | b'-')
 }
 
-/// The bytes as text, if each may stand in a name.
-fn text<'a>(bytes: &'a [u8]) -> Option<&'a str>
-    ensures { MatchOption result (is_name bytes.now ≡ false) (λ s. (is_name bytes.now ≡ true) × (s.now ≡ bytes.now)) }
+/// May each of the bytes stand in a name?
+fn is_name(bytes: &[u8]) -> bool
+    ensures { result ≡ is_name bytes.now }
 {
-    for b in bytes {
-        if !is_letter(*b) {
-            return None;
-        }
+    bytes.iter().all(|byte| is_letter(*byte))
+}
+
+/// The bytes as text, if each may stand in a name.
+fn text<'a>(bytes: &'a [u8]) -> Result<&'a str, Refusal>
+    ensures { MatchResult result (λ s. (is_name bytes.now ≡ true) × (s.now ≡ bytes.now)) (λ e. (is_name bytes.now ≡ false) × (e ≡ BadName)) }
+{
+    if is_name(bytes) {
+        Ok(unsafe { from_utf8_unchecked(bytes) })
+    } else {
+        Err(Refusal::BadName)
     }
-    Some(unsafe { from_utf8_unchecked(bytes) })
 }
 
 /// The item that a body of 27 to 42 bytes tells of: eleven fields, then its name.
@@ -49,8 +56,6 @@ pub(crate) fn read_item<'a>(body: &'a [u8]) -> Result<ItemRecord<'a>, Refusal>
         offset: long(body, 18),
         deadline: long(body, 22),
     };
-    match text(&body[26..]) {
-        Some(name) => Ok(ItemRecord { item, name }),
-        None => Err(Refusal::BadName),
-    }
+    let name = text(&body[26..])?;
+    Ok(ItemRecord { item, name })
 }

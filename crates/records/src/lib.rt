@@ -4,5 +4,7 @@
 pub mod bytes;
 pub mod fault;
 mod item;
+mod print;
 pub mod record;
+pub mod rows;
 mod station;

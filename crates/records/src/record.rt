@@ -1,4 +1,5 @@
 ghost use Rattle.std.specs.Prelude.{◌≡◌, ◌<◌, ◌≤◌, length, IfOk};
+ghost use Rattle.records.specs.Kinds.{kind_of};
 ghost use Rattle.records.specs.Records.{arc_of, read_of, read_as, record_of, record_as};
 
 use crate::bytes::cut;
@@ -41,6 +42,29 @@ pub enum Record<'a> {
     Arc(Arc),
 }
 
+/// What a record tells of.
+#[derive(Clone, Copy)]
+enum Kind {
+    Station,
+    Item,
+    Arc,
+}
+
+impl TryFrom<u16> for Kind {
+    type Error = Refusal;
+
+    ghost try_from_gives = { λ number kind. kind ≡ kind_of number };
+
+    fn try_from(number: u16) -> Result<Kind, Refusal> {
+        match number {
+            1 => Ok(Kind::Station),
+            2 => Ok(Kind::Item),
+            3 => Ok(Kind::Arc),
+            _ => Err(Refusal::StrangeKind),
+        }
+    }
+}
+
 /// The arc that a body of 2 bytes tells of.
 fn read_arc(body: &[u8]) -> Result<Arc, Refusal>
     ensures { result ≡ arc_of body.now }
@@ -58,16 +82,11 @@ fn read_arc(body: &[u8]) -> Result<Arc, Refusal>
 fn read<'a>(file: SourceFile, kind: u16, body: &'a [u8]) -> Result<Record<'a>, Refusal>
     ensures { read_as result ≡ read_of file kind body.now }
 {
-    match file {
-        SourceFile::Cell => match kind {
-            1 => Ok(Record::Station(read_station(body)?)),
-            _ => Err(Refusal::StrangeKind),
-        },
-        SourceFile::Process => match kind {
-            2 => Ok(Record::Item(read_item(body)?)),
-            3 => Ok(Record::Arc(read_arc(body)?)),
-            _ => Err(Refusal::StrangeKind),
-        },
+    match (file, Kind::try_from(kind)?) {
+        (SourceFile::Cell, Kind::Station) => Ok(Record::Station(read_station(body)?)),
+        (SourceFile::Process, Kind::Item) => Ok(Record::Item(read_item(body)?)),
+        (SourceFile::Process, Kind::Arc) => Ok(Record::Arc(read_arc(body)?)),
+        _ => Err(Refusal::StrangeKind),
     }
 }
 

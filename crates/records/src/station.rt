@@ -10,20 +10,14 @@ use rules::gateway::Slot;
 fn figures_of(class: u8, first: u32, second: u32, third: u16) -> Option<Figures>
     ensures { result ≡ figures_of class first second third }
 {
-    let unused = second == 0 && third == 0;
-    match class {
-        1 if first == 0 && unused => Some(Figures::Table),
-        2 if first == 0 && unused => Some(Figures::Processor),
-        3 if 1 <= first && first <= 100 && unused => Some(Figures::Can(Bus {
+    // Kept as numbers: this match is where a class's number becomes the class.
+    match (class, first, second, third) {
+        (1, 0, 0, 0) => Some(Figures::Table),
+        (2, 0, 0, 0) => Some(Figures::Processor),
+        (3, 1..=100, 0, 0) => Some(Figures::Can(Bus {
             ticks_per_bit: first,
         })),
-        4
-            if 1 <= first
-                && first <= 100_000
-                && 1 <= second
-                && second <= first
-                && 1 <= third
-                && third <= 240 => {
+        (4, 1..=100_000, _, 1..=240) if 1 <= second && second <= first => {
             Some(Figures::Gateway(Slot {
                 round: first,
                 length: second,

@@ -1,4 +1,2 @@
-pub mod Rowing
-pub mod Paged
-pub mod Granted
 pub mod Judged
+pub mod Rowing

@@ -1,41 +1,45 @@
--- Rows one by one, and the times that they have.
-use Rattle.std.proofs.Common.{◌≡◌, ℕ, zero, suc, ◌+◌, ◌<◌, ◌≤◌, List, [], ◌∷◌, length, get_or, sym, refl, ap, ◌∙◌, ⊎_elim, arith}
-use Rattle.std.proofs.lemmas.List.{length_push, length-map, get_or_append_left, get_or_push, ext_get_or}
-use Rattle.std.proofs.lemmas.Bool.{cases_lt}
-use Rattle.model.specs.declared.times.Times.{Times}
+-- The rows of a sheet, one by one, and the times that they have.
+use Rattle.std.proofs.Common.{◌≡◌, ℕ, ◌+◌, List, [], ◌∷◌, ◌++◌, map, length, slice_index_or, sym, refl, ap, ◌∙◌, subst, arith}
+use Rattle.std.specs.List.{range_with_len}
+use Rattle.std.proofs.lemmas.List.FromFn.{fill_by_all, map-range_with_len_more}
+use Rattle.std.proofs.lemmas.List.{map-append}
+use Rattle.std.proofs.lemmas.Simd.{map-map}
+use Rattle.model.specs.declared.item.Item.{Item}
 use Rattle.model.specs.Items.{no_times}
-use Rattle.promise.specs.State.{State}
-use Rattle.page.specs.Pages.{Row, rows_to}
-use Rattle.page.proofs.Rowing.{at_map}
+use Rattle.promise.specs.declared.outcome.Line.{Line}
+use Rattle.promise.specs.State.{State, Meaning, item_at, times_at}
+use Rattle.promise.specs.Calls.{line_at}
+use Rattle.page.specs.Pages.{Row, Page, settled, rows_to}
+use Rattle.page.specs.Rows.{row_with}
 use Rattle.report.specs.Pages.{row_of}
-use Rattle.report.specs.Truth.{times_in}
+use Rattle.report.specs.Truth.{Least, Truth, times_in}
 
-pub rows_same : (f g : ℕ → Row) (n : ℕ) → ((i : ℕ) → i < n → f i ≡ g i) → rows_to f n ≡ rows_to g n
-rows_same f g zero h = refl
-rows_same f g (suc n) h =
-    let a : rows_to f n ≡ rows_to g n = rows_same f g n (λ i l. h i (omega arith)) in
-    let b : f n ≡ g n = h n (omega arith) in
+-- a row made of an item's line and deadline is its row
+pub row_is : (names : List (List ℕ)) (t : State) (k : ℕ) (name : List ℕ) (line : Line) (limit : ℕ) → name ≡ slice_index_or names k [] → line ≡ line_at t k → limit ≡ (item_at t line.number).deadline → row_with name line limit ≡ row_of names t k
+row_is names t k name line limit named lined limited =
+    let number : line.number ≡ k = ap (λ (l : Line). l.number) lined in
+    let due : limit ≡ (item_at t k).deadline = limited ∙ ap (λ i. (item_at t i).deadline) number in
+    let late = ap (λ (l : Line). l.late) lined in
+    let wait = ap (λ (l : Line). l.wait) lined in
+    let end = ap (λ (l : Line). l.end) lined in
     cc
 
-length_rows : (f : ℕ → Row) (n : ℕ) → length (rows_to f n) ≡ n
-length_rows f zero = refl
-length_rows f (suc n) = length_push (rows_to f n) (f n) ∙ (let e : length (rows_to f n) + 1 ≡ suc n = omega (arith, length_rows f n) in e)
-
-row_at : (f : ℕ → Row) (n i : ℕ) (d : Row) → i < n → get_or (rows_to f n) i d ≡ f i
-row_at f zero i d l = absurd (omega arith)
-row_at f (suc n) i d l =
-    ⊎_elim (λ (g : i < n). get_or_append_left (rows_to f n) (f n ∷ []) d i (omega (arith, length_rows f n)) ∙ row_at f n i d g)
-    (λ (g : n ≤ i).
-    let e : i ≡ n = omega arith in
-    get_or_push (rows_to f n) (f n) d i (omega (arith, length_rows f n)) ∙ ap f (sym e)) (cases_lt i n)
+-- one row more
+pub rows_more : {A : Type 0} (as_row : A → Row) (row : ℕ → Row) (rows : List A) (r : A) (k : ℕ) → map as_row rows ≡ rows_to row k → as_row r ≡ row k → map as_row (rows ++ (r ∷ [])) ≡ rows_to row (k + 1)
+rows_more as_row row rows r k so_far same =
+    let more = map-append as_row rows (r ∷ []) in
+    let last = map-range_with_len_more row 0 k k (omega arith) in
+    cc
 
 -- the rows of a sheet have the sheet's times
-pub times_of_lem : (names : List (List ℕ)) (s : State) → length s.times ≡ length s.items → times_in (rows_to (row_of names s) (length s.items)) ≡ s.times
-times_of_lem names s paired =
-    let n : ℕ = length s.items in
-    let row : ℕ → Row = row_of names s in
-    let f : Row → Times = λ r. record { late = r.late; wait = r.wait } in
-    let d : Row = record { name = []; late = 0; wait = 0; end = 0; limit = 0 } in
-    let long : length (times_in (rows_to row n)) ≡ n = length-map (rows_to row n) f ∙ length_rows row n in
-    ext_get_or no_times (times_in (rows_to row n)) s.times (long ∙ sym paired)
-    (λ i l. sym (at_map f (rows_to row n) i d) ∙ ap f (row_at row n i d (omega (arith, long))))
+pub times_of_rows : (names : List (List ℕ)) (t : State) → length t.times ≡ length t.items → times_in (rows_to (row_of names t) (length t.items)) ≡ t.times
+times_of_rows names t paired =
+    let all : t.times ≡ map (times_at t) (range_with_len 0 (length t.items)) = fill_by_all (times_at t) t.times (length t.items) no_times paired (λ k h. refl) in
+    map-map _ _ _ ∙ sym all
+
+-- a settled page of those rows says what the least lawful set is
+pub truth_of_rows : (m : Meaning) (s : State) (names : List (List ℕ)) (t : State) (page : Page) (steps : ℕ) → page ≡ settled (rows_to (row_of names t) (length t.items)) steps → t.items ≡ s.items → Least m s t.times → Truth m s page
+truth_of_rows m s names t page steps told items least =
+    let paired : length t.times ≡ length t.items = least.lawful.paired ∙ ap (λ (xs : List Item). length xs) (sym items) in
+    let same = times_of_rows names t paired in
+    rw told (subst (Least m s) (sym same) least)

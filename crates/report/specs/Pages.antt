@@ -8,10 +8,10 @@ use Rattle.promise.specs.Runs.{Ran, run_of}
 use Rattle.promise.specs.Promise.{enough}
 use Rattle.rules.specs.All.{AllClasses, all_admits, all_wait, all_load}
 use Rattle.page.specs.Pages.{Row, Page, settled, broken, spent, refused, rows_to}
-use Rattle.records_next.specs.declared.fault.Fault.{Fault}
-use Rattle.files_next.specs.Cell.{cell_of, or_none}
-use Rattle.files_next.specs.Rows.{answer_of}
-use Rattle.files_next.specs.Process.{sheet_of, names_of}
+use Rattle.records.specs.declared.fault.Fault.{Fault}
+use Rattle.files.specs.Cell.{cell_of, or_none}
+use Rattle.files.specs.Rows.{answer_of}
+use Rattle.files.specs.Process.{sheet_of, names_of}
 
 abbrev pub row_of : List (List ℕ) → State → ℕ → Row
 row_of names s i = record { name = slice_index_or names i []; late = late_at s.times i; wait = wait_at s.times i; end = end_at s.items s.times i; limit = (item_at s i).deadline }

@@ -1,102 +1,88 @@
-ghost use Rattle.std.specs.Prelude.{◌≡◌, ℕ, ◌<◌, length, slice_index, slice_index_or};
+ghost use Rattle.std.specs.Prelude.{◌≡◌, ℕ, ◌<◌, length, slice_index_or};
 ghost use Rattle.promise.specs.State.{meaning, item_at};
 ghost use Rattle.promise.specs.Calls.{no_line, line_at};
 ghost use Rattle.promise.specs.Promise.{enough as enough_of, IsSettled};
 ghost use Rattle.promise.specs.Runs.{run_of};
-ghost use Rattle.sheet.specs.Tables.{state_of};
-ghost use Rattle.files_next.specs.Process.{sheet_of, or_empty, names_of};
+ghost use Rattle.files.specs.Process.{sheet_of, or_empty, names_of};
+ghost use Rattle.page.specs.Pages.{rows_to};
 ghost use Rattle.page.specs.Reports.{told};
-ghost use Rattle.report.specs.Pages.{ran, over_of, means, cell_means, after, report_of};
+ghost use Rattle.report.specs.Pages.{row_of, ran, over_of, means, cell_means, after, report_of};
 ghost use Rattle.report.specs.Truth.{Truth};
 ghost use Rattle.report.specs.Verdicts.{Reached, Verdict};
 
-use files_next::cell::make_bank;
-use files_next::names::names;
-use files_next::process::make_sheet;
+use arrayvec::ArrayVec;
+use files::cell::make_bank;
+use files::names::names;
+use files::process::make_sheet;
 use model::rule::Rule;
-use page::page::{Report, Rows};
+use page::page::{Report, Row, Rows};
 use promise::outcome::{Ending, Line, RunResult};
-use records_next::fault::Fault;
+use records::fault::Fault;
 use rules::all::AllClasses;
 use sheet::sheet::Sheet;
 
-fn limit<R: Rule>(sheet: &Sheet<R>, i: usize) -> u32
-    ensures { result ≡ (item_at (state_of sheet.now.table) i).deadline }
+/// The deadline of an item, or 0 where no item has this number.
+fn limit<R: Rule>(sheet: &Sheet<R>, number: usize) -> u32
+    ensures { result ≡ (item_at sheet.now.table number).deadline }
 {
-    match sheet.item(i) {
-        Some(item) => item.deadline,
-        None => 0,
-    }
+    sheet.item(number).map_or(0, |item| item.deadline)
 }
 
-/// The deadlines of the items.
-fn limits<R: Rule>(sheet: &Sheet<R>) -> [u32; 64]
-    ensures { (i : ℕ) → i < 64 → slice_index result i ≡ (item_at (state_of sheet.now.table) i).deadline }
-{
-    let mut limits = [0; 64];
-    for i in 0..64 {
-        limits[i] = limit(sheet, i);
-    }
-    limits
-}
-
-/// The lines of a settled sheet.
+/// The lines of a settled sheet, in front.
 fn lines<R: Rule>(sheet: &Sheet<R>) -> [Line; 64]
-    requires settled { IsSettled (meaning R.Rule sheet.now.rule) (state_of sheet.now.table) }
-    ensures { (i : ℕ) → i < length (state_of sheet.now.table).items → slice_index_or result i no_line ≡ line_at (state_of sheet.now.table) i }
+    requires settled { IsSettled (meaning R.Rule sheet.now.rule) sheet.now.table }
+    ensures { (i : ℕ) → i < length sheet.now.table.items → slice_index_or result i no_line ≡ line_at sheet.now.table i }
 {
-    let mut lines = [Line {
-        number: 0,
-        late: 0,
-        wait: 0,
-        end: 0,
-    }; 64];
-    match sheet.times(&mut lines) {
-        Ok(()) => lines,
-        Err(_) => unreachable(),
+    let mut lines = [Line::default(); 64];
+    sheet.times(&mut lines).unwrap();
+    lines
+}
+
+/// The rows of a settled sheet whose items have their names in a process file.
+fn rows<'a, R: Rule>(sheet: &Sheet<R>, process: &'a [u8]) -> Rows<'a>
+    requires settled { IsSettled (meaning R.Rule sheet.now.rule) sheet.now.table }
+    ensures { result ≡ rows_to (row_of (names_of process.now) sheet.now.table) (length sheet.now.table.items) }
+{
+    let lines = lines(sheet);
+    let names = names(process);
+    let mut rows = ArrayVec::new();
+    for (line, name) in lines[..sheet.count()].iter().zip(&names) {
+        rows.push(Row::new(name, *line, limit(sheet, line.number)));
     }
+    Rows::from(rows)
 }
 
 /// An allowance that always decides.
 fn allowance<R: Rule>(sheet: &Sheet<R>) -> u64
-    ensures { result ≡ enough_of (state_of sheet.now.table) }
+    ensures { result ≡ enough_of sheet.now.table }
 {
     sheet.enough()
 }
 
 /// Runs a sheet until it is settled or broken.
 fn decide<R: Rule>(sheet: &mut Sheet<R>) -> RunResult
-    requires { Reached (meaning R.Rule sheet.old.rule) (state_of sheet.old.table) }
-    ensures verdict { Verdict (meaning R.Rule sheet.old.rule) (state_of sheet.old.table) result (state_of sheet.new.table) }
+    requires { Reached (meaning R.Rule sheet.old.rule) sheet.old.table }
+    ensures verdict { Verdict (meaning R.Rule sheet.old.rule) sheet.old.table result sheet.new.table }
     ensures rule { sheet.new.rule ≡ sheet.old.rule }
 {
     let steps = allowance(sheet);
-    match sheet.run(steps) {
-        Ok(result) => result,
-        Err(_) => unreachable(),
-    }
+    sheet.run(steps).unwrap()
 }
 
 /// What a sheet comes to whose items have their names in a process file.
 fn judge<'a, R: Rule>(sheet: &mut Sheet<R>, process: &'a [u8]) -> Report<'a>
-    requires { Reached (meaning R.Rule sheet.old.rule) (state_of sheet.old.table) }
-    ensures page { told result ≡ ran (names_of process.now) (run_of (R.Rule.wait sheet.old.rule) (state_of sheet.old.table) (enough_of (state_of sheet.old.table))) }
-    ensures truth { Truth (meaning R.Rule sheet.old.rule) (state_of sheet.old.table) (told result) }
+    requires { Reached (meaning R.Rule sheet.old.rule) sheet.old.table }
+    ensures page { told result ≡ ran (names_of process.now) (run_of (R.Rule.wait sheet.old.rule) sheet.old.table (enough_of sheet.old.table)) }
+    ensures truth { Truth (meaning R.Rule sheet.old.rule) sheet.old.table (told result) }
 {
-    let result = decide(sheet);
-    let names = names(process);
-    let steps = result.steps;
-    match result.ending {
-        Ending::Settled => {
-            let rows = Rows {
-                count: sheet.count(),
-                names,
-                lines: lines(sheet),
-                limits: limits(sheet),
-            };
-            Report::settled(rows, steps)
-        }
-        Ending::Broken { item, cause } => Report::broken(names[item], cause, steps),
+    let RunResult {
+        ending,
+        steps,
+        raises: _,
+    } = decide(sheet);
+    match ending {
+        Ending::Settled => Report::settled(rows(sheet, process), steps),
+        Ending::Broken { item, cause } => Report::broken(names(process)[item], cause, steps),
         Ending::Spent => unreachable(),
     }
 }
@@ -118,6 +104,7 @@ fn tell_after<'a>(bank: AllClasses, cell: Result<(), Fault>, process: &'a [u8]) 
     ensures page { told result ≡ after cell (over_of (means bank) process.now) }
     ensures truth { Truth (means bank) (or_empty (sheet_of (means bank) process.now)) (told result) }
 {
+    // A fault in the cell file goes first, so it is the way out.
     if let Err(fault) = cell {
         return Report::refused(fault);
     }

@@ -8,3 +8,4 @@ pub mod All
 pub mod Parts
 pub mod Laws
 pub mod SumBounds
+pub mod Figures

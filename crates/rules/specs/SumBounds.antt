@@ -4,10 +4,10 @@ use Rattle.std.proofs.Common.{le_trans, mul-le-mul_right, arith}
 use Rattle.model.specs.declared.item.Item.{Item}
 use Rattle.model.specs.declared.times.Times.{Times}
 use Rattle.model.specs.Items.{no_item, no_times}
-use Rattle.model.specs.Laws.{Handed, Monotone}
+use Rattle.model.specs.Laws.{Handed, Monotone, Small}
 use Rattle.model.specs.Folds.{sum_to}
 use Rattle.model.proofs.Folds.{sum_to_rises, sum_to_small, cond_rises, cond_small}
-use Rattle.rules.specs.Sums.{is_stronger, Part, part_at, over_stronger, Small, Fair}
+use Rattle.rules.specs.Sums.{is_stronger, Part, part_at, over_stronger, Fair}
 
 handed_small : (items : List Item) (s : List Times) → Handed items s → (i : ℕ) → i < length items → Small (slice_index_or s i no_times)
 handed_small items s hs i h = record { late = hs.late_small i h; wait = hs.wait_small i h }

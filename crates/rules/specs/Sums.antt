@@ -5,7 +5,7 @@ use Rattle.model.specs.declared.item.Item.{Item}
 use Rattle.model.specs.declared.times.Times.{Times}
 use Rattle.model.specs.Folds.{sum_to, largest_to}
 use Rattle.model.specs.Items.{no_item, no_times, jitter_of, Valid}
-use Rattle.model.specs.Laws.{Reckoning}
+use Rattle.model.specs.Laws.{Reckoning, Small}
 
 -- a divisor below 1 counts as 1
 abbrev pub ⌊◌/◌⌋ : ℕ → ℕ → ℕ
@@ -58,10 +58,6 @@ loading part items times i = (get_or items i no_item).size + over_stronger part 
 -- how often a message j arrives while mine waits: ⌊(wait + jitter j) / period j⌋ + 1
 abbrev pub arrivals : Times → Item → Times → ℕ
 arrivals own other its = ⌊ own.wait + jitter_of other its / other.period ⌋ + 1
-
-pub record Small (t : Times) : Type 0 where
-  pub late : t.late ≤ 1000000
-  pub wait : t.wait ≤ 1000000
 
 -- a part that raising times never lowers, and that is at most m
 pub record Fair (m : ℕ) (f : Part) : Type 0 where

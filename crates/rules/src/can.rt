@@ -2,11 +2,11 @@ ghost use Rattle.rules.specs.Can.{can_admits, can_wait, can_load, frames, queued
 ghost use Rattle.rules.specs.Parts.{frames_fair, loads_fair, queued_fair};
 ghost use Rattle.rules.specs.Laws.{can_law};
 
-use crate::interference::{Blocking, Contribution, arrivals, load_of, wait_of};
+use crate::interference::{Contribution, arrivals, load_of, wait_of};
 use crate::stations::Stations;
+use model::asked::{Asked, Timed};
 use model::item::Item;
 use model::rule::{ClassRule, Rule};
-use model::times::Times;
 
 /// The figures of a CAN bus.
 #[derive(Clone, Copy)]
@@ -28,8 +28,8 @@ impl Contribution for Frames {
 
     ghost fair = { frames_fair };
 
-    fn part(_mine: &Item, own: &Times, other: &Item, its: &Times) -> u64 {
-        arrivals(own, other, its) * other.duration as u64
+    fn part(mine: Timed<'_>, other: Timed<'_>) -> u64 {
+        arrivals(mine, other) * u64::from(other.item.duration)
     }
 }
 
@@ -41,23 +41,12 @@ impl Contribution for Queued {
 
     ghost fair = { loads_fair _ queued_fair };
 
-    fn part(mine: &Item, own: &Times, other: &Item, its: &Times) -> u64 {
-        if mine.queue == other.queue {
-            arrivals(own, other, its) * other.size as u64
+    fn part(mine: Timed<'_>, other: Timed<'_>) -> u64 {
+        if mine.item.queue == other.item.queue {
+            arrivals(mine, other) * u64::from(other.item.size)
         } else {
             0
         }
-    }
-}
-
-/// A weaker frame that has begun blocks for its whole duration.
-struct Begun;
-
-impl Blocking for Begun {
-    ghost figure = { λ x. x.duration };
-
-    fn figure(item: &Item) -> u32 {
-        item.duration
     }
 }
 
@@ -71,31 +60,26 @@ impl Rule for Can {
     ghost lawful = { λ r. can_law };
 
     fn admits(&self, item: &Item) -> bool {
-        let Some(bus) = self.stations.get(item.station) else {
-            return false;
-        };
+        let bits = 55 + 10 * u64::from(item.size);
         item.class == Self::CLASS
             && item.mark == 0
             && item.held == 0
             && item.size <= 8
-            && item.duration as u64 == (55 + 10 * item.size as u64) * bus.ticks_per_bit as u64
+            && self.stations.get(item.station).is_some_and(|bus| u64::from(item.duration)
+                == bits * u64::from(bus.ticks_per_bit))
     }
 
-    fn wait(&self, items: &[Item], times: &[Times], i: usize) -> u32 {
-        wait_of::<Begun, Frames>(items, times, i)
+    fn wait(&self, asked: Asked<'_>) -> u32 {
+        wait_of::<Frames, _>(asked, &|begun: &Item| begun.duration)
     }
 
-    fn load(&self, items: &[Item], times: &[Times], i: usize) -> u64 {
-        load_of::<Queued>(items, times, i)
+    fn load(&self, asked: Asked<'_>) -> u64 {
+        load_of::<Queued>(asked)
     }
 }
 
 impl ClassRule for Can {
-    ghost number = { 3 };
+    ghost CLASS = { 3 };
 
     const CLASS: u8 = 3;
-
-    fn of_class() -> u8 {
-        Self::CLASS
-    }
 }

@@ -4,9 +4,9 @@ ghost use Rattle.rules.specs.Laws.{gateway_law};
 
 use crate::interference::{Contribution, arrivals, cap, ceiling, load_of};
 use crate::stations::Stations;
+use model::asked::{Asked, Timed};
 use model::item::Item;
 use model::rule::{ClassRule, Rule};
-use model::times::Times;
 
 /// The figures of a gateway: its slot in the round of the time-triggered network.
 #[derive(Clone, Copy)]
@@ -34,8 +34,8 @@ impl Contribution for Ahead {
 
     ghost fair = { loads_fair _ bytes_fair };
 
-    fn part(_mine: &Item, own: &Times, other: &Item, its: &Times) -> u64 {
-        arrivals(own, other, its) * other.size as u64
+    fn part(mine: Timed<'_>, other: Timed<'_>) -> u64 {
+        arrivals(mine, other) * u64::from(other.item.size)
     }
 }
 
@@ -49,38 +49,32 @@ impl Rule for Gateway {
     ghost lawful = { λ r. gateway_law r.stations.figures };
 
     fn admits(&self, item: &Item) -> bool {
-        let Some(slot) = self.stations.get(item.station) else {
-            return false;
-        };
         item.class == Self::CLASS
             && item.mark == 0
             && item.held == 0
             && item.queue == 0
             && 1 <= item.size
-            && item.size as u16 <= slot.capacity
-            && item.duration == slot.length
+            && self.stations.get(item.station).is_some_and(|slot| u16::from(item.size)
+                <= slot.capacity
+                && item.duration == slot.length)
     }
 
-    fn wait(&self, items: &[Item], times: &[Times], i: usize) -> u32 {
-        let Some(slot) = self.stations.get(items[i].station) else {
+    fn wait(&self, asked: Asked<'_>) -> u32 {
+        let Some(slot) = self.stations.get(asked.mine().item.station) else {
             return 0;
         };
-        let round = slot.round as u64;
-        let slots = ceiling(load_of::<Ahead>(items, times, i), slot.capacity as u32);
+        let round = u64::from(slot.round);
+        let slots = ceiling(load_of::<Ahead>(asked), u32::from(slot.capacity));
         cap(round.saturating_add(slots.saturating_mul(round)))
     }
 
-    fn load(&self, items: &[Item], times: &[Times], i: usize) -> u64 {
-        load_of::<Ahead>(items, times, i)
+    fn load(&self, asked: Asked<'_>) -> u64 {
+        load_of::<Ahead>(asked)
     }
 }
 
 impl ClassRule for Gateway {
-    ghost number = { 4 };
+    ghost CLASS = { 4 };
 
     const CLASS: u8 = 4;
-
-    fn of_class() -> u8 {
-        Self::CLASS
-    }
 }

@@ -2,11 +2,11 @@ ghost use Rattle.rules.specs.Processor.{processor_admits, processor_wait, work a
 ghost use Rattle.rules.specs.Parts.{work_fair};
 ghost use Rattle.rules.specs.Laws.{processor_law};
 
-use crate::interference::{Blocking, Contribution, ceiling, wait_of};
+use crate::interference::{Contribution, ceiling, wait_of};
 use crate::stations::Stations;
+use model::asked::{Asked, Timed};
 use model::item::Item;
 use model::rule::{ClassRule, Rule};
-use model::times::Times;
 
 /// Class 2, processor: fixed priorities with preemption.
 #[derive(Drop)]
@@ -22,20 +22,10 @@ impl Contribution for Work {
 
     ghost fair = { work_fair };
 
-    fn part(mine: &Item, own: &Times, other: &Item, its: &Times) -> u64 {
-        let window = own.wait as u64 + mine.duration as u64 + its.jitter(other) as u64;
-        ceiling(window, other.period) * other.duration as u64
-    }
-}
-
-/// A weaker process that has begun is not interrupted for its held stretch.
-struct Held;
-
-impl Blocking for Held {
-    ghost figure = { λ x. x.held };
-
-    fn figure(item: &Item) -> u32 {
-        item.held
+    fn part(mine: Timed<'_>, other: Timed<'_>) -> u64 {
+        let jitter = other.times.jitter(other.item);
+        let window = u64::from(mine.times.wait) + u64::from(mine.item.duration) + u64::from(jitter);
+        ceiling(window, other.item.period) * u64::from(other.item.duration)
     }
 }
 
@@ -56,21 +46,17 @@ impl Rule for Processor {
             && item.queue == 0
     }
 
-    fn wait(&self, items: &[Item], times: &[Times], i: usize) -> u32 {
-        wait_of::<Held, Work>(items, times, i)
+    fn wait(&self, asked: Asked<'_>) -> u32 {
+        wait_of::<Work, _>(asked, &|begun: &Item| begun.held)
     }
 
-    fn load(&self, _items: &[Item], _times: &[Times], _i: usize) -> u64 {
+    fn load(&self, _asked: Asked<'_>) -> u64 {
         0
     }
 }
 
 impl ClassRule for Processor {
-    ghost number = { 2 };
+    ghost CLASS = { 2 };
 
     const CLASS: u8 = 2;
-
-    fn of_class() -> u8 {
-        Self::CLASS
-    }
 }

@@ -19,11 +19,7 @@ impl<T: Copy> Stations<T> {
     pub fn get(&self, station: u8) -> Option<T>
         ensures { result ≡ station_at self.now.figures station }
     {
-        if station < 8 {
-            self.figures[station as usize]
-        } else {
-            None
-        }
+        self.figures.get(usize::from(station)).copied().flatten()
     }
 
     /// Adds a station, if its number is 0 to 7 and new here. Otherwise all stays as it was.
@@ -34,7 +30,7 @@ impl<T: Copy> Stations<T> {
         if station >= 8 || self.get(station).is_some() {
             return false;
         }
-        self.figures[station as usize] = Some(figures);
+        self.figures[usize::from(station)] = Some(figures);
         true
     }
 }

@@ -2,9 +2,9 @@ ghost use Rattle.rules.specs.Table.{table_admits};
 ghost use Rattle.bank.specs.Laws.{nothing_law};
 
 use crate::stations::Stations;
+use model::asked::Asked;
 use model::item::Item;
 use model::rule::{ClassRule, Rule};
-use model::times::Times;
 
 /// Class 1, table: the start is fixed by a table, so there is nothing to wait for and no queue.
 #[derive(Drop)]
@@ -30,21 +30,17 @@ impl Rule for Table {
             && item.queue == 0
     }
 
-    fn wait(&self, _items: &[Item], _times: &[Times], _i: usize) -> u32 {
+    fn wait(&self, _asked: Asked<'_>) -> u32 {
         0
     }
 
-    fn load(&self, _items: &[Item], _times: &[Times], _i: usize) -> u64 {
+    fn load(&self, _asked: Asked<'_>) -> u64 {
         0
     }
 }
 
 impl ClassRule for Table {
-    ghost number = { 1 };
+    ghost CLASS = { 1 };
 
     const CLASS: u8 = 1;
-
-    fn of_class() -> u8 {
-        Self::CLASS
-    }
 }

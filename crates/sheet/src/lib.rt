@@ -3,6 +3,7 @@
 
 mod admit;
 mod answers;
+mod ask;
 mod run;
 pub mod sheet;
 mod step;

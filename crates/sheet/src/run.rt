@@ -1,10 +1,10 @@
 ghost use Rattle.std.specs.Prelude.{◌≡◌, ◌+◌, ◌<◌, if◌then◌else◌, nat_le, nat_lt};
 ghost use Rattle.promise.specs.State.{meaning};
 ghost use Rattle.promise.specs.Runs.{run_of};
-ghost use Rattle.promise.specs.Calls.{Call, run_answer};
+ghost use Rattle.promise.specs.Calls.{Call, run_ask, run_answer};
 ghost use Rattle.promise.specs.Promise.{Leaves};
-ghost use Rattle.sheet.specs.Tables.{state_of};
 
+use crate::ask::ask;
 use crate::sheet::Sheet;
 use model::rule::Rule;
 use promise::outcome::{Became, Ending, Refusal, RunResult};
@@ -29,41 +29,36 @@ impl<R: Rule> Sheet<R> {
     /// Steps the items in the order of their numbers, round and round, until the sheet breaks, until
     /// a whole round of steps in a row was quiet, or until no step is allowed any more.
     fn cycle(&mut self, allowance: u64) -> RunResult
-        ensures answer { result ≡ (run_of (R.Rule.wait self.old.rule) (state_of self.old.table) allowance).result }
-        ensures state { state_of self.new.table ≡ (run_of (R.Rule.wait self.old.rule) (state_of self.old.table) allowance).state }
+        ensures answer { result ≡ (run_of (R.Rule.wait self.old.rule) self.old.table allowance).result }
+        ensures state { self.new.table ≡ (run_of (R.Rule.wait self.old.rule) self.old.table allowance).state }
         ensures rule { self.new.rule ≡ self.old.rule }
     {
-        let n = self.table.count;
+        let n = self.count();
+        // Counted by hand: a step that raises a time begins the row of quiet ones again, so neither is a
+        // count of turns.
         let mut item: usize = 0;
         let mut quiet: usize = 0;
-        let mut steps: u64 = 0;
         let mut raises: u64 = 0;
-        loop {
+        for steps in 0..allowance {
             if settles(quiet, n) {
-                break RunResult {
-                    ending: Ending::Settled,
+                let ending = Ending::Settled;
+                return RunResult {
+                    ending,
                     steps,
                     raises,
                 };
             }
-            if steps >= allowance {
-                break RunResult {
-                    ending: Ending::Spent,
-                    steps,
-                    raises,
-                };
-            }
-            let became = self.turn(item);
-            steps += 1;
-            match became {
+            match self.turn(item) {
                 Became::Raised => {
                     quiet = 0;
                     raises += 1;
                 }
                 Became::Quiet => quiet += 1,
                 Became::Broke(cause) => {
-                    break RunResult {
-                        ending: Ending::Broken { item, cause },
+                    let ending = Ending::Broken { item, cause };
+                    let steps = steps + 1;
+                    return RunResult {
+                        ending,
                         steps,
                         raises,
                     };
@@ -71,17 +66,32 @@ impl<R: Rule> Sheet<R> {
             }
             item = next_item(item, n);
         }
+        let ending = if settles(quiet, n) {
+            Ending::Settled
+        } else {
+            Ending::Spent
+        };
+        let steps = allowance;
+        RunResult {
+            ending,
+            steps,
+            raises,
+        }
+    }
+
+    fn ask_run(&self) -> Result<(), Refusal>
+        ensures { result ≡ run_ask self.now.table }
+    {
+        ask(!self.table.is_broken(), Refusal::SheetBroken)
     }
 
     /// Runs the sheet with an allowance of steps.
     pub fn run(&mut self, allowance: u64) -> Result<RunResult, Refusal>
-        ensures answer { result ≡ run_answer (meaning R.Rule self.old.rule) (state_of self.old.table) allowance }
-        ensures leaves { Leaves (meaning R.Rule self.old.rule) (state_of self.old.table) (Call.run allowance) (state_of self.new.table) }
+        ensures answer { result ≡ run_answer (meaning R.Rule self.old.rule) self.old.table allowance }
+        ensures leaves { Leaves (meaning R.Rule self.old.rule) self.old.table (Call.run allowance) self.new.table }
         ensures rule { self.new.rule ≡ self.old.rule }
     {
-        if self.table.broken {
-            return Err(Refusal::SheetBroken);
-        }
+        self.ask_run()?;
         Ok(self.cycle(allowance))
     }
 }

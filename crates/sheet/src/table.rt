@@ -1,65 +1,191 @@
-ghost use Rattle.std.specs.Prelude.{◌≡◌, ◌≤◌, true, false, take, replicate};
-ghost use Rattle.model.specs.Items.{no_times};
+ghost use Rattle.std.specs.Prelude.{◌≡◌, ◌-◌, ◌<◌, ◌≤◌, [], ◌∷◌, ◌++◌, length, slice_set};
+ghost use Rattle.model.specs.Items.{end_of, Valid};
+ghost use Rattle.model.specs.Lawful.{end_at};
+ghost use Rattle.promise.specs.State.{empty, fresh, item_at};
+ghost use Rattle.promise.specs.Calls.{joined};
+ghost use Rattle.promise.specs.Promise.{room};
+ghost use Rattle.promise.specs.Steps.{latest, written, broken_off};
 
+use arrayvec::ArrayVec;
 use model::arc::Arc;
+use model::asked::Asked;
 use model::item::Item;
 use model::times::Times;
+use std::marker::Model;
 
-/// What a sheet holds beside its rule: plain figures, of which the first `count` items with their
-/// times and the first `arc_count` arcs are in use.
-#[derive(Clone, Copy)]
+/// What a sheet holds beside its rule; in a clause, the state that the calls speak of.
+#[derive(Drop)]
 pub struct Table {
-    pub(crate) count: usize,
-    pub(crate) items: [Item; 64],
-    pub(crate) arc_count: usize,
-    pub(crate) arcs: [Arc; 128],
-    pub(crate) times: [Times; 64],
-    pub(crate) broken: bool,
-    ghost few: { count ≤ 64 },
-    ghost few_arcs: { arc_count ≤ 128 },
+    items: ArrayVec<Item, 64>,
+    arcs: ArrayVec<Arc, 128>,
+    times: ArrayVec<Times, 64>,
+    broken: bool,
 }
 
+impl Model for Table {
+    ghost use Rattle.promise.specs.State.{State};
+
+    ghost Value = { State };
+
+    ghost use Rattle.sheet.specs.Tables.{state_of, Fit};
+
+    ghost view = { state_of };
+
+    ghost invariant = { λ t. Fit (state_of t) };
+}
+
+/// How much late and wait of an item may come to.
+fn slack(item: &Item) -> u32
+    ensures { result ≡ item.now.deadline - item.now.duration }
+{
+    item.deadline.saturating_sub(item.duration)
+}
+
+// Each method asks for `i` inside: a type for such numbers could not say inside which table.
 impl Table {
-    pub(crate) fn items(&self) -> &[Item]
-        ensures { result.now ≡ take self.now.count self.now.items }
+    /// A table with nothing in it.
+    pub(crate) fn empty() -> Table
+        ensures { result ≡ empty }
     {
-        &self.items[0..self.count]
+        Table {
+            items: ArrayVec::new(),
+            arcs: ArrayVec::new(),
+            times: ArrayVec::new(),
+            broken: false,
+        }
+    }
+
+    pub(crate) fn items(&self) -> &[Item]
+        ensures value { result.now ≡ self.now.items }
+        ensures few { length result.now ≤ 64 }
+    {
+        self.items.as_slice()
     }
 
     pub(crate) fn arcs(&self) -> &[Arc]
-        ensures { result.now ≡ take self.now.arc_count self.now.arcs }
+        ensures { result.now ≡ self.now.arcs }
     {
-        &self.arcs[0..self.arc_count]
+        self.arcs.as_slice()
     }
 
     pub(crate) fn times(&self) -> &[Times]
-        ensures { result.now ≡ take self.now.count self.now.times }
+        ensures { result.now ≡ self.now.times }
     {
-        &self.times[0..self.count]
+        self.times.as_slice()
+    }
+
+    pub(crate) fn is_broken(&self) -> bool
+        ensures { result ≡ self.now.broken }
+    {
+        self.broken
+    }
+
+    /// Item `i` as the rule is asked about it.
+    pub(crate) fn ask(&self, i: usize) -> Asked<'_>
+        requires { i < length self.now.items }
+        ensures items { result.items.now ≡ self.now.items }
+        ensures times { result.times.now ≡ self.now.times }
+        ensures i { result.i ≡ i }
+    {
+        Asked {
+            items: self.items.as_slice(),
+            times: self.times.as_slice(),
+            i,
+        }
     }
 
     /// Sets all times back, and makes the table unbroken.
-    pub(crate) fn reset(&mut self)
-        ensures times { self.new.times ≡ replicate 64 no_times }
-        ensures broken { self.new.broken ≡ false }
-        ensures count { self.new.count ≡ self.old.count }
-        ensures items { self.new.items ≡ self.old.items }
-        ensures arc_count { self.new.arc_count ≡ self.old.arc_count }
-        ensures arcs { self.new.arcs ≡ self.old.arcs }
+    fn reset(&mut self)
+        ensures { self.new ≡ fresh self.old.items self.old.arcs }
     {
-        self.times = [Times { late: 0, wait: 0 }; 64];
+        self.times.as_mut_slice().fill(Times::default());
         self.broken = false;
+    }
+
+    /// Appends an item, and sets all times back.
+    pub(crate) fn push(&mut self, item: Item)
+        requires room { length self.old.items < 64 }
+        requires valid { Valid item }
+        ensures { self.new ≡ fresh (self.old.items ++ (item ∷ [])) self.old.arcs }
+    {
+        self.items.push(item);
+        self.times.push(Times::default());
+        self.reset();
+    }
+
+    /// Adds an arc, and sets all times back.
+    pub(crate) fn join(&mut self, from: usize, to: usize)
+        requires room { length self.old.arcs < 128 }
+        requires start { from < length self.old.items }
+        requires end { to < length self.old.items }
+        ensures { self.new ≡ fresh self.old.items (self.old.arcs ++ (joined from to ∷ [])) }
+    {
+        // Cast: there are at most 64 items, so nothing is lost, and `try_from` would add an error that
+        // never comes.
+        self.arcs.push(Arc {
+            from: from as u8,
+            to: to as u8,
+        });
+        self.reset();
+    }
+
+    /// Replaces the record of item `i`, and sets all times back.
+    pub(crate) fn replace(&mut self, i: usize, item: Item)
+        requires inside { i < length self.old.items }
+        requires valid { Valid item }
+        ensures { self.new ≡ fresh (slice_set self.old.items i item) self.old.arcs }
+    {
+        self.items.as_mut_slice()[i] = item;
+        self.reset();
+    }
+
+    /// Writes the times of item `i`, which end it within its deadline.
+    pub(crate) fn write(&mut self, i: usize, new: Times)
+        requires inside { i < length self.old.items }
+        requires in_time { end_of (item_at self.old i) new ≤ (item_at self.old i).deadline }
+        ensures { self.new ≡ written self.old i new }
+    {
+        self.times.as_mut_slice()[i] = new;
     }
 
     /// Marks the table as broken, and touches no time.
     pub(crate) fn break_off(&mut self)
-        ensures broken { self.new.broken ≡ true }
-        ensures times { self.new.times ≡ self.old.times }
-        ensures count { self.new.count ≡ self.old.count }
-        ensures items { self.new.items ≡ self.old.items }
-        ensures arc_count { self.new.arc_count ≡ self.old.arc_count }
-        ensures arcs { self.new.arcs ≡ self.old.arcs }
+        ensures { self.new ≡ broken_off self.old }
     {
         self.broken = true;
+    }
+
+    /// The end of item `i` by the times that the table holds.
+    pub(crate) fn end(&self, i: usize) -> u32
+        requires { i < length self.now.items }
+        ensures value { result ≡ end_at self.now.items self.now.times i }
+        ensures small { result ≤ 3000000 }
+    {
+        let mine = self.ask(i).mine();
+        mine.times.late + mine.times.wait + mine.item.duration
+    }
+
+    /// The sum of deadline − duration over the items: how far times may rise.
+    pub(crate) fn room(&self) -> u64
+        ensures value { result ≡ room self.now }
+        ensures small { result ≤ 64000000 }
+    {
+        let items = self.items.as_slice();
+        items.iter().map(|item| u64::from(slack(item))).sum()
+    }
+
+    /// The larger of the item's offset and all ends with an arc to it.
+    pub(crate) fn latest(&self, i: usize) -> u32
+        requires inside { i < length self.now.items }
+        ensures value { result ≡ latest self.now.items self.now.times i self.now.arcs (item_at self.now i).offset }
+        ensures small { result ≤ 3000000 }
+    {
+        let mut late = self.ask(i).mine().item.offset;
+        for arc in self.arcs.as_slice() {
+            if usize::from(arc.to) == i {
+                late = late.max(self.end(usize::from(arc.from)));
+            }
+        }
+        late
     }
 }

@@ -10,6 +10,7 @@ use files::process::check_process;
 use records::fault::SourceFile;
 use std::{fs, io};
 
+// Kept in both programs: no contract says what a file holds, so a function that they shared could promise nothing.
 /// What the file holds, and nothing where there is none.
 fn read_or_empty(rt: &HostRuntime, path: &str) -> io::Result<Vec<u8>> {
     match fs::read(rt, path) {
@@ -31,11 +32,7 @@ fn tell(rt: &HostRuntime, cell: &[u8], process: &[u8]) -> io::Result<()> {
     if let Err(fault) = check_process(process) {
         return println!(rt; "{fault}");
     }
-    let mut counts = Counts {
-        stations: 0,
-        items: 0,
-        arcs: 0,
-    };
+    let mut counts = Counts::default();
     list(rt, &bank, &mut counts, SourceFile::Cell, cell)?;
     list(rt, &bank, &mut counts, SourceFile::Process, process)?;
     println!(rt;

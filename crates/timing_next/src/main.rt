@@ -6,6 +6,7 @@
 use report::tell::tell;
 use std::{fs, io};
 
+// Kept in both programs: no contract says what a file holds, so a function that they shared could promise nothing.
 /// What the file holds, and nothing where there is none.
 fn read_or_empty(rt: &HostRuntime, path: &str) -> io::Result<Vec<u8>> {
     match fs::read(rt, path) {

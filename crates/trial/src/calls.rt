@@ -1,11 +1,11 @@
 //! Calls on a sheet, and what the reckoner's plan answers to them.
 use crate::machine::{Activity, Link, Machine, Outlet};
+use crate::question::{Question, ask};
 use crate::questions::{ask_change, ask_entry, ask_link};
 use crate::replay::Plan;
 use crate::seed::Seed;
 use crate::spoil::{misfit, stranger};
-use crate::verdict::{Answer, Line, Question};
-use crate::waits::bound_of;
+use crate::verdict::{Answer, Line};
 use std::alloc::{AllocError, Global};
 
 #[derive(Clone, Copy)]
@@ -29,20 +29,12 @@ const UNTOUCHED: Line = Line {
 };
 
 fn ask_unbroken(plan: &Plan) -> Result<(), Question> {
-    if plan.broken {
-        Err(Question(19))
-    } else {
-        Ok(())
-    }
+    ask(!plan.broken, Question::Unbroken)
 }
 
 fn ask_settled(plan: &Plan) -> Result<(), Question> {
     ask_unbroken(plan)?;
-    if plan.is_settled() {
-        Ok(())
-    } else {
-        Err(Question(20))
-    }
+    ask(plan.is_settled(), Question::Settled)
 }
 
 /// The first question about a call that is answered with no.
@@ -52,38 +44,29 @@ fn ask_call(plan: &Plan, call: &Call) -> Result<(), Question> {
         Call::Enter(activity) => ask_entry(&plan.machine, activity),
         Call::Join(link) => ask_link(&plan.machine, *link),
         Call::Change(number, activity) => ask_change(&plan.machine, *number, activity),
-        Call::Step(number) if *number >= count => Err(Question(14)),
-        Call::Step(_) | Call::Run(_) => ask_unbroken(plan),
+        Call::Step(number) => {
+            ask(*number < count, Question::KnownItem)?;
+            ask_unbroken(plan)
+        }
+        Call::Run(_) => ask_unbroken(plan),
         Call::Queue(_) => ask_settled(plan),
         Call::Times(length) => {
             ask_settled(plan)?;
-            if *length < count {
-                Err(Question(21))
-            } else {
-                Ok(())
-            }
+            ask(*length >= count, Question::Table)
         }
     }
 }
 
+/// The times of all items in a table of so many records.
 fn told(heap: Global, plan: &Plan, length: usize) -> Result<Answer, AllocError> {
-    let mut lines = Vec::new(heap);
-    for number in 0..length {
-        if number < plan.machine.activities.len() {
-            lines.push(plan.line(number))?;
-        } else {
-            lines.push(UNTOUCHED)?;
-        }
-    }
+    let mut lines = plan.lines(heap)?;
+    lines.resize(length, UNTOUCHED)?;
     Ok(Answer::Told(lines))
 }
 
-/// What the plan answers to a call, and does.
-pub fn call_plan(heap: Global, plan: &mut Plan, call: Call) -> Result<Answer, AllocError> {
-    if let Err(question) = ask_call(plan, &call) {
-        return Ok(Answer::Refused(question));
-    }
-    let answer = match call {
+/// What the plan answers to a call that no question refuses, and does.
+fn grant(heap: Global, plan: &mut Plan, call: Call) -> Result<Answer, AllocError> {
+    Ok(match call {
         Call::Enter(activity) => {
             let number = plan.machine.activities.len();
             plan.machine.activities.push(activity)?;
@@ -96,33 +79,36 @@ pub fn call_plan(heap: Global, plan: &mut Plan, call: Call) -> Result<Answer, Al
             Answer::Granted
         }
         Call::Change(number, activity) => {
-            if let Some(slot) = plan.machine.activities.get_mut(number) {
-                *slot = activity;
-            }
+            plan.machine.change(number, activity);
             plan.begin_again()?;
             Answer::Granted
         }
         Call::Step(number) => {
             let became = plan.step(number);
-            Answer::Stepped(became, plan.end(number))
+            Answer::Stepped(became, plan.now().end(number))
         }
         Call::Run(allowance) => Answer::Ran(plan.run(allowance)),
         Call::Times(length) => told(heap, plan, length)?,
-        Call::Queue(outlet) => {
-            let moments = plan.moments.as_slice();
-            Answer::Bounded(bound_of(&plan.machine, moments, outlet))
-        }
-    };
-    Ok(answer)
+        Call::Queue(outlet) => Answer::Bounded(plan.now().bound(outlet)),
+    })
+}
+
+/// What the plan answers to a call, and does.
+pub fn call_plan(heap: Global, plan: &mut Plan, call: Call) -> Result<Answer, AllocError> {
+    match ask_call(plan, &call) {
+        Ok(()) => grant(heap, plan, call),
+        Err(question) => Ok(Answer::Refused(question)),
+    }
 }
 
 /// A record for a change: the old one with something else in it.
 fn altered(seed: &mut Seed, old: Activity) -> Activity {
     let mut new = old;
+    // Kept as a number: a draw, and an enum would name what its one arm says.
     match seed.number(0, 14) {
-        0 | 1 | 2 => new.duration = seed.number(1, old.duration),
+        0..=2 => new.duration = seed.number(1, old.duration),
         3 => new.duration = seed.number(0, old.period),
-        4 | 5 => new.deadline = seed.number(old.duration, old.period),
+        4..=5 => new.deadline = seed.number(old.duration, old.period),
         6 => new.deadline = seed.number(0, old.period),
         7 => new.offset = seed.number(0, old.period),
         8 => new.priority = seed.byte(0, 255),
@@ -138,6 +124,7 @@ fn altered(seed: &mut Seed, old: Activity) -> Activity {
 
 /// A record for an entry: good, or with a fault.
 fn another(seed: &mut Seed, machine: &Machine, old: Activity) -> Activity {
+    // Kept as a number: a draw, as above.
     match seed.number(0, 4) {
         0 => old,
         1 => misfit(seed, old),
@@ -169,17 +156,19 @@ fn draw_run(seed: &mut Seed, plan: &Plan) -> u64 {
 pub fn draw_call(seed: &mut Seed, plan: &Plan) -> Call {
     let count = plan.machine.activities.len();
     let number = draw_number(seed, count);
-    let activity = plan.machine.activity(number);
+    let known = plan.machine.activities.get(number).copied();
+    let activity = known.unwrap_or_default();
+    // Kept as a number: a draw, which here makes the enum.
     match seed.number(0, 15) {
         0 => Call::Enter(another(seed, &plan.machine, activity)),
         1 => Call::Join(Link {
             from: draw_number(seed, count),
             to: number,
         }),
-        2 | 3 | 4 => Call::Change(number, altered(seed, activity)),
-        5 | 6 | 7 | 8 => Call::Step(number),
-        9 | 10 | 11 => Call::Run(draw_run(seed, plan)),
-        12 | 13 => Call::Times(
+        2..=4 => Call::Change(number, altered(seed, activity)),
+        5..=8 => Call::Step(number),
+        9..=11 => Call::Run(draw_run(seed, plan)),
+        12..=13 => Call::Times(
             count
                 .saturating_add(seed.index(3))
                 .saturating_sub(seed.index(3)),

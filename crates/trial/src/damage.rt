@@ -1,89 +1,47 @@
 //! The example's two files, cut at every length, and with every other value in the place of each byte.
-use crate::pairs::compare;
-use crate::tally::Tally;
-use std::alloc::{AllocError, Global};
+use crate::pairs::Trials;
+use crate::source::{Files, Source};
+use std::alloc::AllocError;
 
-/// Which of the two files is damaged.
-#[derive(Clone, Copy)]
-enum Damaged {
-    Cell,
-    Process,
-}
-
-/// One damaged file beside the other, which is whole.
-fn try_beside(
-    heap: Global,
-    number: u64,
-    damaged: Damaged,
-    file: &[u8],
-    other: &[u8],
-    tally: &mut Tally,
-) -> Result<(), AllocError> {
-    match damaged {
-        Damaged::Cell => compare(heap, number, file, other, tally),
-        Damaged::Process => compare(heap, number, other, file, tally),
-    }
-}
-
-fn try_cuts(
-    heap: Global,
-    damaged: Damaged,
-    file: &[u8],
-    other: &[u8],
-    tally: &mut Tally,
-) -> Result<(), AllocError> {
-    for length in 0..file.len() {
-        try_beside(heap, length as u64, damaged, &file[..length], other, tally)?;
-    }
-    Ok(())
-}
-
-/// Puts every other value in the place of one byte.
-fn try_values(
-    heap: Global,
-    damaged: Damaged,
-    file: &mut [u8],
-    place: usize,
-    other: &[u8],
-    tally: &mut Tally,
-) -> Result<(), AllocError> {
-    let Some(right) = file.get(place).copied() else {
-        return Ok(());
-    };
-    for more in 1..=255u8 {
-        if let Some(byte) = file.get_mut(place) {
-            *byte = right.wrapping_add(more);
+impl Trials {
+    fn try_cuts(&mut self, files: Files<'_>, source: Source) -> Result<(), AllocError> {
+        let whole = files.of(source);
+        for length in 0..whole.len() {
+            self.compare(length as u64, files.with(source, &whole[..length]))?;
         }
-        try_beside(heap, place as u64, damaged, file, other, tally)?;
+        Ok(())
     }
-    if let Some(byte) = file.get_mut(place) {
-        *byte = right;
-    }
-    Ok(())
-}
 
-fn try_bytes(
-    heap: Global,
-    damaged: Damaged,
-    file: &mut [u8],
-    other: &[u8],
-    tally: &mut Tally,
-) -> Result<(), AllocError> {
-    for place in 0..file.len() {
-        try_values(heap, damaged, file, place, other, tally)?;
+    /// Puts every other value in the place of one byte.
+    fn try_values(
+        &mut self,
+        files: Files<'_>,
+        source: Source,
+        place: usize,
+    ) -> Result<(), AllocError> {
+        let mut bytes = Vec::from_slice(self.heap, files.of(source))?;
+        for _ in 1..=255u8 {
+            if let Some(byte) = bytes.get_mut(place) {
+                *byte = byte.wrapping_add(1);
+            }
+            self.compare(place as u64, files.with(source, bytes.as_slice()))?;
+        }
+        Ok(())
     }
-    Ok(())
-}
 
-/// Damages the two files one after the other.
-pub fn try_damage(
-    heap: Global,
-    cell: &mut [u8],
-    process: &mut [u8],
-    tally: &mut Tally,
-) -> Result<(), AllocError> {
-    try_cuts(heap, Damaged::Cell, cell, process, tally)?;
-    try_cuts(heap, Damaged::Process, process, cell, tally)?;
-    try_bytes(heap, Damaged::Cell, cell, process, tally)?;
-    try_bytes(heap, Damaged::Process, process, cell, tally)
+    fn try_bytes(&mut self, files: Files<'_>, source: Source) -> Result<(), AllocError> {
+        for place in 0..files.of(source).len() {
+            self.try_values(files, source, place)?;
+        }
+        Ok(())
+    }
+
+    /// Damages the two files one after the other.
+    pub fn try_damage(&mut self, files: Files<'_>) -> Result<(), AllocError> {
+        for source in [Source::Cell, Source::Process] {
+            self.try_cuts(files, source)?;
+            self.try_bytes(files, source)?;
+        }
+        Ok(())
+    }
 }

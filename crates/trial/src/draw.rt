@@ -1,5 +1,5 @@
 //! Machines drawn from a seed. Most are admitted; how much load they carry differs widely.
-use crate::machine::{Activity, Link, Machine, NO_ACTIVITY, NO_STATION, Name, Station};
+use crate::machine::{Activity, Class, Link, Machine, Name, Station, spelled};
 use crate::seed::Seed;
 use std::alloc::{AllocError, Global};
 
@@ -20,42 +20,53 @@ pub struct Style {
     pub arcs: u32,
 }
 
-pub fn draw_style(seed: &mut Seed) -> Style {
-    let count = match seed.number(0, 39) {
-        0 => 0,
-        1 => seed.index(65),
-        2 | 3 => seed.index(30),
-        _ => seed.index(12).saturating_add(1),
-    };
-    let most = u32::try_from(count.saturating_mul(3) / 2).unwrap_or(0);
-    let spread = seed.one_of(&[1, 2, 3, 5, 10]);
-    let base = seed.one_of(&[1000, 2500, 5000, 10_000, 50_000, 200_000, 1_000_000]);
-    let base = base.max(spread.saturating_mul(1000));
-    let short = base / spread.max(1);
-    Style {
-        count,
-        base,
-        spread,
-        grain: seed.one_of(&[1, 1, short / 100, short / 20]),
-        share: seed.one_of(&[3, 5, 10, 20, 60, 200]),
-        inputs: seed.one_of(&[1, 2, 6]),
-        arcs: seed.number(0, most),
+impl Style {
+    pub fn draw(seed: &mut Seed) -> Style {
+        // Kept as a number: a draw, which nothing but the arms below ever reads.
+        let count = match seed.number(0, 39) {
+            0 => 0,
+            1 => seed.index(65),
+            2..=3 => seed.index(30),
+            _ => seed.index(12).saturating_add(1),
+        };
+        let most = u32::try_from(count.saturating_mul(3) / 2).unwrap_or(0);
+        let spread: u32 = seed.one_of(&[1, 2, 3, 5, 10]);
+        let base: u32 = seed.one_of(&[1000, 2500, 5000, 10_000, 50_000, 200_000, 1_000_000]);
+        let base = base.max(spread.saturating_mul(1000));
+        let short = base / spread.max(1);
+        Style {
+            count,
+            base,
+            spread,
+            grain: seed.one_of(&[1, 1, short / 100, short / 20]),
+            share: seed.one_of(&[3, 5, 10, 20, 60, 200]),
+            inputs: seed.one_of(&[1, 2, 6]),
+            arcs: seed.number(0, most),
+        }
+    }
+
+    fn short_period(&self) -> u32 {
+        self.base / self.spread.max(1)
+    }
+
+    fn rounded(&self, ticks: u32) -> u32 {
+        (ticks / self.grain.max(1)).saturating_mul(self.grain)
     }
 }
 
 /// A station whose figures leave room within the period.
-fn draw_station(seed: &mut Seed, class: u8, number: u8, period: u32) -> Station {
+fn draw_station(seed: &mut Seed, class: Class, number: u8, period: u32) -> Station {
     let bare = Station {
-        class,
+        class: class as u8,
         number,
-        ..NO_STATION
+        ..Station::default()
     };
     match class {
-        3 => Station {
+        Class::Bus => Station {
             first: seed.number(1, (period / 400).min(100)),
             ..bare
         },
-        4 => {
+        Class::Gateway => {
             let round = seed.number(1, (period / 16).min(100_000));
             Station {
                 first: round,
@@ -64,44 +75,42 @@ fn draw_station(seed: &mut Seed, class: u8, number: u8, period: u32) -> Station 
                 ..bare
             }
         }
-        _ => bare,
+        Class::Table | Class::Processor => bare,
     }
 }
 
-fn draw_stations(heap: Global, seed: &mut Seed, period: u32) -> Result<Vec<Station>, AllocError> {
-    let mut stations = Vec::new(heap);
-    for class in 1..5u8 {
-        let most = if seed.once_in(5) { 8 } else { 2 };
-        let count = seed.byte(1, most);
-        let first = seed.byte(0, 7);
-        for k in 0..count {
-            let number = first.wrapping_add(k) % 8;
-            stations.push(draw_station(seed, class, number, period))?;
-        }
+/// The stations of one class, with numbers that follow one another and begin anew after 7.
+fn draw_class(
+    seed: &mut Seed,
+    class: Class,
+    period: u32,
+    stations: &mut Vec<Station>,
+) -> Result<(), AllocError> {
+    let most = if seed.once_in(5) { 8 } else { 2 };
+    let count = seed.byte(1, most);
+    let first = seed.byte(0, 7);
+    for number in first..first.saturating_add(count) {
+        stations.push(draw_station(seed, class, number % 8, period))?;
     }
-    Ok(stations)
+    Ok(())
 }
 
 fn draw_name(seed: &mut Seed) -> Name {
-    let letters = b"abcdefghijklmnopqrstuvwxyz0123456789-";
-    let mut bytes = [b' '; 16];
-    for slot in bytes.iter_mut() {
-        *slot = letters.get(seed.index(37)).copied().unwrap_or(b'a');
+    let mut letters = [b' '; 16];
+    for slot in letters.iter_mut() {
+        *slot = seed.one_of(b"abcdefghijklmnopqrstuvwxyz0123456789-");
     }
-    Name {
-        bytes,
-        length: seed.index(16).saturating_add(1),
-    }
+    let length = seed.index(16).saturating_add(1);
+    spelled(letters.get(..length).unwrap_or(&letters))
 }
 
 /// A message on a CAN bus, as long as its size asks for.
 fn draw_frame(seed: &mut Seed, station: &Station, bare: Activity) -> Activity {
     let size = seed.byte(0, 8);
-    let bits = u32::from(size).saturating_mul(10).saturating_add(55);
     Activity {
         size,
         queue: seed.byte(0, 3),
-        duration: bits.saturating_mul(station.first),
+        duration: station.frame_ticks(size),
         ..bare
     }
 }
@@ -117,45 +126,35 @@ fn draw_cargo(seed: &mut Seed, station: &Station, bare: Activity) -> Activity {
     }
 }
 
-fn rounded(number: u32, grain: u32) -> u32 {
-    (number / grain.max(1)).saturating_mul(grain)
-}
-
 /// The figures that the class of the station asks for.
 fn draw_work(seed: &mut Seed, station: &Station, style: &Style, bare: Activity) -> Activity {
     let most = bare.period / style.share.max(1);
-    let duration = rounded(seed.number(1, most), style.grain).max(style.grain);
-    match station.class {
-        1 => Activity {
+    let duration = style.rounded(seed.number(1, most)).max(style.grain);
+    match bare.kind() {
+        Some(Class::Table) => Activity {
             mark: 1,
             duration,
-            offset: rounded(
-                seed.number(0, bare.period.saturating_sub(duration)),
-                style.grain,
-            ),
+            offset: style.rounded(seed.number(0, bare.period.saturating_sub(duration))),
             ..bare
         },
-        2 => {
+        Some(Class::Processor) => {
             let held = if seed.once_in(3) { duration } else { 0 };
             Activity {
                 duration,
-                held: rounded(seed.number(0, held), style.grain),
+                held: style.rounded(seed.number(0, held)),
                 ..bare
             }
         }
-        3 => draw_frame(seed, station, bare),
-        _ => draw_cargo(seed, station, bare),
+        Some(Class::Bus) => draw_frame(seed, station, bare),
+        Some(Class::Gateway) | None => draw_cargo(seed, station, bare),
     }
 }
 
-fn short_period(style: &Style) -> u32 {
-    style.base / style.spread.max(1)
-}
-
 fn draw_activity(seed: &mut Seed, station: Station, style: &Style, priority: u8) -> Activity {
+    // Kept as a number: a draw, which nothing but the arms below ever reads.
     let period = match seed.number(0, 9) {
         0 if style.spread > 1 => style.base.saturating_mul(2).min(1_000_000),
-        1 | 2 | 3 | 4 => short_period(style),
+        1..=4 => style.short_period(),
         _ => style.base,
     };
     let bare = Activity {
@@ -165,28 +164,56 @@ fn draw_activity(seed: &mut Seed, station: Station, style: &Style, priority: u8)
         period,
         deadline: period,
         name: draw_name(seed),
-        ..NO_ACTIVITY
+        ..Activity::default()
     };
     let mut activity = draw_work(seed, &station, style, bare);
     if seed.once_in(6) {
-        let deadline = rounded(seed.number(period / 2, period), style.grain);
+        let deadline = style.rounded(seed.number(period / 2, period));
         activity.deadline = deadline.max(activity.duration);
     }
     if activity.mark == 0 && seed.once_in(2) {
-        activity.offset = rounded(seed.number(0, period / 3), style.grain);
+        activity.offset = style.rounded(seed.number(0, period / 3));
     }
     activity
 }
 
-fn draw_links(seed: &mut Seed, machine: &mut Machine, style: &Style) -> Result<(), AllocError> {
+fn draw_activities(
+    seed: &mut Seed,
+    style: &Style,
+    machine: &mut Machine,
+) -> Result<(), AllocError> {
+    // An odd step goes through all bytes, so no two priorities are the same.
+    let mut priority = seed.byte(0, 255);
+    let step = seed.byte(0, 127).wrapping_mul(2).wrapping_add(1);
+    let stations = machine.stations.as_slice();
+    let busy = seed.any_of(stations);
+    for _ in 0..style.count {
+        let any = seed.any_of(stations);
+        let at = if seed.once_in(2) { busy } else { any };
+        let station = at.unwrap_or_default();
+        let activity = draw_activity(seed, station, style, priority);
+        machine.activities.push(activity)?;
+        priority = priority.wrapping_add(step);
+    }
+    Ok(())
+}
+
+/// An arc that the machine may have and has not yet, or none.
+fn draw_link(seed: &mut Seed, style: &Style, machine: &Machine) -> Option<Link> {
+    let from = seed.index(style.count);
+    let to = seed.index(style.count);
+    let first = machine.activities.get(from)?;
+    let last = machine.activities.get(to)?;
+    let link = Link { from, to };
+    let wanted = last.mark == 0 || seed.once_in(style.inputs);
+    let fits = from < to && first.period == last.period;
+    let new = !machine.links.as_slice().contains(&link);
+    (wanted && fits && new).then_some(link)
+}
+
+fn draw_links(seed: &mut Seed, style: &Style, machine: &mut Machine) -> Result<(), AllocError> {
     for _ in 0..style.arcs {
-        let from = seed.index(style.count);
-        let to = seed.index(style.count);
-        let link = Link { from, to };
-        let last = machine.activity(to);
-        let fits = from < to && machine.activity(from).period == last.period;
-        let wanted = last.mark == 0 || seed.once_in(style.inputs);
-        if fits && wanted && !machine.links.as_slice().contains(&link) {
+        if let Some(link) = draw_link(seed, style, machine) {
             machine.links.push(link)?;
         }
     }
@@ -194,23 +221,11 @@ fn draw_links(seed: &mut Seed, machine: &mut Machine, style: &Style) -> Result<(
 }
 
 pub fn draw_machine(heap: Global, seed: &mut Seed, style: &Style) -> Result<Machine, AllocError> {
-    let mut machine = Machine {
-        stations: draw_stations(heap, seed, short_period(style))?,
-        activities: Vec::new(heap),
-        links: Vec::new(heap),
-    };
-    // An odd step goes through all bytes, so no two priorities are the same.
-    let mut priority = seed.byte(0, 255);
-    let step = seed.byte(0, 127).wrapping_mul(2).wrapping_add(1);
-    let busy = seed.index(machine.stations.len());
-    for _ in 0..style.count {
-        let any = seed.index(machine.stations.len());
-        let at = if seed.once_in(2) { busy } else { any };
-        let station = machine.stations.get(at).copied().unwrap_or(NO_STATION);
-        let activity = draw_activity(seed, station, style, priority);
-        machine.activities.push(activity)?;
-        priority = priority.wrapping_add(step);
+    let mut machine = Machine::new(heap);
+    for class in Class::ALL {
+        draw_class(seed, class, style.short_period(), &mut machine.stations)?;
     }
-    draw_links(seed, &mut machine, style)?;
+    draw_activities(seed, style, &mut machine)?;
+    draw_links(seed, style, &mut machine)?;
     Ok(machine)
 }

@@ -1,5 +1,5 @@
 //! A machine as the bytes of the two files.
-use crate::machine::{Activity, Link, Machine};
+use crate::machine::{Activity, Kind, Link, Machine};
 use std::alloc::{AllocError, Global};
 
 /// The bytes of a file, and the places of its records.
@@ -26,50 +26,72 @@ impl Encoded {
         }
     }
 
+    /// Puts another byte at a place, where the file has it.
+    pub fn put(&mut self, at: usize, byte: u8) {
+        if let Some(slot) = self.bytes.get_mut(at) {
+            *slot = byte;
+        }
+    }
+
     fn pair(&mut self, number: u32) -> Result<(), AllocError> {
         let [low, high, _, _] = number.to_le_bytes();
-        self.bytes.push(low)?;
-        self.bytes.push(high)?;
-        Ok(())
+        self.bytes.extend_from_slice(&[low, high])
     }
 
     fn word(&mut self, number: u32) -> Result<(), AllocError> {
         self.bytes.extend_from_slice(&number.to_le_bytes())
     }
 
-    fn head(&mut self, length: u32, kind: u32) -> Result<(), AllocError> {
+    fn head(&mut self, length: u32, kind: Kind) -> Result<(), AllocError> {
         self.places.push(self.bytes.len())?;
         self.pair(length)?;
-        self.pair(kind)
+        self.pair(kind as u32)
     }
 
     fn activity(&mut self, activity: &Activity) -> Result<(), AllocError> {
-        let length = u32::try_from(activity.name.length).unwrap_or(1);
-        self.head(length.saturating_add(26), 2)?;
-        let small = [
+        let name = activity.name.as_str().as_bytes();
+        let length = u32::try_from(name.len()).unwrap_or(1);
+        self.head(length.saturating_add(26), Kind::Activity)?;
+        self.bytes.extend_from_slice(&[
             activity.class,
             activity.station,
             activity.mark,
             activity.priority,
             activity.queue,
             activity.size,
-        ];
-        self.bytes.extend_from_slice(&small)?;
-        self.word(activity.period)?;
-        self.word(activity.duration)?;
-        self.word(activity.held)?;
-        self.word(activity.offset)?;
-        self.word(activity.deadline)?;
-        for letter in activity.name.bytes.iter().take(activity.name.length) {
-            self.bytes.push(*letter)?;
+        ])?;
+        for ticks in [
+            activity.period,
+            activity.duration,
+            activity.held,
+            activity.offset,
+            activity.deadline,
+        ] {
+            self.word(ticks)?;
         }
-        Ok(())
+        self.bytes.extend_from_slice(name)
     }
 
     fn link(&mut self, link: &Link) -> Result<(), AllocError> {
-        self.head(2, 3)?;
-        self.bytes.push(u8::try_from(link.from).unwrap_or(255))?;
-        self.bytes.push(u8::try_from(link.to).unwrap_or(255))?;
+        self.head(2, Kind::Link)?;
+        let from = u8::try_from(link.from).unwrap_or(255);
+        let to = u8::try_from(link.to).unwrap_or(255);
+        self.bytes.extend_from_slice(&[from, to])
+    }
+
+    /// The arcs that `wanted` picks, in their order.
+    fn links<F: Fn(&Link) -> bool>(
+        &mut self,
+        machine: &Machine,
+        wanted: F,
+    ) -> Result<(), AllocError>
+        requires { F.IsAlwaysCallable wanted }
+    {
+        for link in machine.links.iter() {
+            if wanted(link) {
+                self.link(link)?;
+            }
+        }
         Ok(())
     }
 }
@@ -77,9 +99,9 @@ impl Encoded {
 pub fn cell_file(heap: Global, machine: &Machine) -> Result<Encoded, AllocError> {
     let mut file = Encoded::new(heap);
     for station in machine.stations.iter() {
-        file.head(12, 1)?;
-        file.bytes.push(station.class)?;
-        file.bytes.push(station.number)?;
+        file.head(12, Kind::Station)?;
+        file.bytes
+            .extend_from_slice(&[station.class, station.number])?;
         file.word(station.first)?;
         file.word(station.second)?;
         file.pair(station.third)?;
@@ -89,21 +111,13 @@ pub fn cell_file(heap: Global, machine: &Machine) -> Result<Encoded, AllocError>
 
 pub fn process_file(heap: Global, machine: &Machine, order: Order) -> Result<Encoded, AllocError> {
     let mut file = Encoded::new(heap);
-    let count = machine.activities.len();
     for (number, activity) in machine.activities.iter().enumerate() {
         file.activity(activity)?;
         if order == Order::Soon {
-            for link in machine.links.iter() {
-                if link.to == number {
-                    file.link(link)?;
-                }
-            }
+            file.links(machine, |link| link.to == number)?;
         }
     }
-    for link in machine.links.iter() {
-        if order == Order::Last || link.to >= count {
-            file.link(link)?;
-        }
-    }
+    let count = machine.activities.len();
+    file.links(machine, |link| order == Order::Last || link.to >= count)?;
     Ok(file)
 }

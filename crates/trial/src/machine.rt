@@ -1,15 +1,58 @@
 //! What a machine is to the reckoner: plain records, in the order of the files.
+use arrayvec::ArrayString;
+use std::alloc::{AllocError, Global};
 
-/// The name of an activity: the first `length` of the bytes.
-#[derive(Clone, Copy)]
-pub struct Name {
-    pub bytes: [u8; 16],
-    pub length: usize,
+/// The name of an activity.
+pub type Name = ArrayString<16>;
+
+/// A class of stations, by the number that the files give it.
+#[derive(Clone, Copy, PartialEq)]
+pub enum Class {
+    Table = 1,
+    Processor,
+    Bus,
+    Gateway,
+}
+
+impl Class {
+    pub const ALL: [Class; 4] = [Class::Table, Class::Processor, Class::Bus, Class::Gateway];
+
+    /// The class that has this number, if one has it.
+    pub fn numbered(number: u8) -> Option<Class> {
+        match number {
+            1 => Some(Class::Table),
+            2 => Some(Class::Processor),
+            3 => Some(Class::Bus),
+            4 => Some(Class::Gateway),
+            _ => None,
+        }
+    }
+}
+
+/// What a record is about, by the number that the files give it.
+#[derive(Clone, Copy, PartialEq)]
+pub enum Kind {
+    Station = 1,
+    Activity,
+    Link,
+}
+
+impl Kind {
+    /// The kind that has this number, if one has it.
+    pub fn numbered(number: u32) -> Option<Kind> {
+        match number {
+            1 => Some(Kind::Station),
+            2 => Some(Kind::Activity),
+            3 => Some(Kind::Link),
+            _ => None,
+        }
+    }
 }
 
 /// What the cell file says of a station. What the three figures mean depends on the class.
-#[derive(Clone, Copy)]
+#[derive(Clone, Copy, Default)]
 pub struct Station {
+    // Kept as a number: files give the class as one, and a spoilt file any.
     pub class: u8,
     pub number: u8,
     pub first: u32,
@@ -20,8 +63,10 @@ pub struct Station {
 /// What the process file says of an item.
 #[derive(Clone, Copy)]
 pub struct Activity {
+    // Kept as a number: files give the class as one, and a spoilt file any.
     pub class: u8,
     pub station: u8,
+    // Kept as a number: files give the mark as one, and a spoilt file any.
     pub mark: u8,
     pub priority: u8,
     pub queue: u8,
@@ -44,9 +89,18 @@ pub struct Link {
 /// An output queue of a station.
 #[derive(Clone, Copy, PartialEq)]
 pub struct Outlet {
+    // Kept as a number: a caller may ask for the queues of any class.
     pub class: u8,
     pub station: u8,
     pub queue: u8,
+}
+
+/// A record of one of the files.
+#[derive(Clone, Copy)]
+pub enum Record {
+    Station(Station),
+    Activity(Activity),
+    Link(Link),
 }
 
 #[derive(Drop)]
@@ -56,33 +110,49 @@ pub struct Machine {
     pub links: Vec<Link>,
 }
 
-pub const NO_STATION: Station = Station {
-    class: 0,
-    number: 0,
-    first: 0,
-    second: 0,
-    third: 0,
-};
+impl Default for Activity {
+    /// The smallest record with limits. It stands in where a machine has no activity to draw.
+    fn default() -> Activity {
+        Activity {
+            class: 0,
+            station: 0,
+            mark: 0,
+            priority: 0,
+            queue: 0,
+            size: 0,
+            period: 1,
+            duration: 1,
+            held: 0,
+            offset: 0,
+            deadline: 1,
+            name: spelled(b"a"),
+        }
+    }
+}
 
-pub const NO_ACTIVITY: Activity = Activity {
-    class: 0,
-    station: 0,
-    mark: 0,
-    priority: 0,
-    queue: 0,
-    size: 0,
-    period: 1,
-    duration: 1,
-    held: 0,
-    offset: 0,
-    deadline: 1,
-    name: Name {
-        bytes: [b'a'; 16],
-        length: 1,
-    },
-};
+/// A name of these letters, or of the first 16.
+pub fn spelled(letters: &[u8]) -> Name {
+    let mut name = Name::new();
+    for letter in letters {
+        // A letter that no longer fits is dropped.
+        let _ = name.try_push(char::from(*letter));
+    }
+    name
+}
+
+impl Station {
+    /// How long a message of so many bytes takes on this bus.
+    pub fn frame_ticks(&self, size: u8) -> u32 {
+        let bits = u32::from(size).saturating_mul(10).saturating_add(55);
+        bits.saturating_mul(self.first)
+    }
+}
 
 impl Activity {
+    pub fn kind(&self) -> Option<Class> {
+        Class::numbered(self.class)
+    }
+
     pub fn outlet(&self) -> Outlet {
         Outlet {
             class: self.class,
@@ -98,17 +168,35 @@ impl Activity {
 }
 
 impl Machine {
-    pub fn activity(&self, number: usize) -> Activity {
-        self.activities.get(number).copied().unwrap_or(NO_ACTIVITY)
+    pub fn new(heap: Global) -> Machine {
+        Machine {
+            stations: Vec::new(heap),
+            activities: Vec::new(heap),
+            links: Vec::new(heap),
+        }
     }
 
-    /// The station of this class and number, if the cell has it.
-    pub fn station(&self, class: u8, number: u8) -> Option<Station> {
-        for station in self.stations.iter() {
-            if station.class == class && station.number == number {
-                return Some(*station);
-            }
+    pub fn add(&mut self, record: Record) -> Result<(), AllocError> {
+        match record {
+            Record::Station(station) => self.stations.push(station)?,
+            Record::Activity(activity) => self.activities.push(activity)?,
+            Record::Link(link) => self.links.push(link)?,
         }
-        None
+        Ok(())
+    }
+
+    /// Puts another activity in the place of the one with this number.
+    pub fn change(&mut self, number: usize, activity: Activity) {
+        if let Some(slot) = self.activities.get_mut(number) {
+            *slot = activity;
+        }
+    }
+
+    /// The station of an activity, if the cell has it.
+    pub fn station_of(&self, activity: &Activity) -> Option<Station> {
+        self.stations
+            .iter()
+            .find(|station| station.class == activity.class && station.number == activity.station)
+            .copied()
     }
 }

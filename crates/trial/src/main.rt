@@ -9,6 +9,7 @@ mod encode;
 mod expected;
 mod machine;
 mod pairs;
+mod question;
 mod questions;
 mod read;
 mod reckon;
@@ -16,16 +17,15 @@ mod replay;
 mod rounds;
 mod seed;
 mod sheets;
+mod source;
 mod spoil;
 mod tally;
 mod tool;
 mod verdict;
 mod waits;
 
-use crate::damage::try_damage;
-use crate::pairs::try_pair;
-use crate::sheets::try_sheet;
-use crate::tally::Tally;
+use crate::pairs::Trials;
+use crate::source::Files;
 use std::{fs, io};
 
 const MACHINES: u64 = 20_000;
@@ -33,20 +33,19 @@ const MACHINES: u64 = 20_000;
 const SHEETS: u64 = 4000;
 
 fn main(rt: HostRuntime) -> io::Result<()> {
-    let mut tally = Tally::new(rt.alloc());
+    let mut trials = Trials::new(rt.alloc());
     for number in 0..MACHINES {
-        try_pair(rt.alloc(), number, &mut tally)?;
+        trials.try_pair(number)?;
     }
     for number in 0..SHEETS {
-        try_sheet(rt.alloc(), number, &mut tally)?;
+        trials.try_sheet(number)?;
     }
-    let mut cell = fs::read(&rt, "cell.bin")?;
-    let mut process = fs::read(&rt, "process.bin")?;
-    try_damage(
-        rt.alloc(),
-        cell.as_mut_slice(),
-        process.as_mut_slice(),
-        &mut tally,
-    )?;
-    tally.print(&rt)
+    let cell = fs::read(&rt, "cell.bin")?;
+    let process = fs::read(&rt, "process.bin")?;
+    trials.try_damage(Files {
+        cell: cell.as_slice(),
+        process: process.as_slice(),
+    })?;
+    let tally = trials.tally;
+    println!(rt; "{tally}")
 }

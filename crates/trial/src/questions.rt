@@ -1,10 +1,6 @@
 //! The reckoner's own questions about records of a machine, in their order.
-use crate::machine::{Activity, Link, Machine, Station};
-use crate::verdict::Question;
-
-fn ask(yes: bool, number: u8) -> Result<(), Question> {
-    if yes { Ok(()) } else { Err(Question(number)) }
-}
+use crate::machine::{Activity, Class, Link, Machine, Record, Station};
+use crate::question::{Question, ask};
 
 /// Are class, station and figures of a station in range?
 fn has_figures(station: &Station) -> bool {
@@ -15,88 +11,88 @@ fn has_figures(station: &Station) -> bool {
         second,
         third,
     } = *station;
-    let figures = match class {
-        1 | 2 => first == 0 && second == 0 && third == 0,
-        3 => first >= 1 && first <= 100 && second == 0 && third == 0,
-        4 => {
-            let round = first >= 1 && first <= 100_000;
-            let slot = second >= 1 && second <= first;
-            round && slot && third >= 1 && third <= 240
+    let figures = match Class::numbered(class) {
+        Some(Class::Table | Class::Processor) => first == 0 && second == 0 && third == 0,
+        Some(Class::Bus) => (1..=100).contains(&first) && second == 0 && third == 0,
+        Some(Class::Gateway) => {
+            let round = (1..=100_000).contains(&first);
+            round && second >= 1 && second <= first && (1..=240).contains(&third)
         }
-        _ => false,
+        None => false,
     };
     figures && number < 8
 }
 
-pub fn ask_station(known: &[Station], station: &Station) -> Result<(), Question> {
-    ask(has_figures(station), 5)?;
-    for other in known {
-        ask(
-            other.class != station.class || other.number != station.number,
-            6,
-        )?;
-    }
-    Ok(())
+fn ask_station(machine: &Machine, station: &Station) -> Result<(), Question> {
+    ask(has_figures(station), Question::Figures)?;
+    let taken = machine.stations.iter().any(|other| other.class == station.class
+        && other.number == station.number);
+    ask(!taken, Question::NewStation)
 }
 
 fn is_admitted(machine: &Machine, activity: &Activity) -> bool {
-    let Some(station) = machine.station(activity.class, activity.station) else {
+    let Some(station) = machine.station_of(activity) else {
         return false;
     };
     let size = u32::from(activity.size);
     let plain = activity.queue == 0 && activity.held == 0;
-    match activity.class {
-        1 => plain && size == 0 && activity.mark == 1,
-        2 => activity.queue == 0 && size == 0 && activity.mark == 0,
-        3 => {
-            let bits = size.saturating_mul(10).saturating_add(55);
-            let fits = activity.duration == bits.saturating_mul(station.first);
+    match activity.kind() {
+        Some(Class::Table) => plain && size == 0 && activity.mark == 1,
+        Some(Class::Processor) => activity.queue == 0 && size == 0 && activity.mark == 0,
+        Some(Class::Bus) => {
+            let fits = activity.duration == station.frame_ticks(activity.size);
             fits && size <= 8 && activity.held == 0 && activity.mark == 0
         }
-        4 => {
+        Some(Class::Gateway) => {
             let fits = activity.duration == station.second && size >= 1 && size <= station.third;
             fits && plain && activity.mark == 0
         }
-        _ => false,
+        None => false,
     }
 }
 
-/// Questions 10 to 13, for an activity that stands at a place of its own or is new.
-fn ask_record(machine: &Machine, place: usize, activity: &Activity) -> Result<(), Question> {
+/// What is asked of an activity that stands at a place of its own or is new.
+fn ask_figures(machine: &Machine, place: usize, activity: &Activity) -> Result<(), Question> {
     let rising = activity.duration <= activity.deadline && activity.deadline <= activity.period;
-    ask(rising && activity.duration != 0, 10)?;
+    ask(rising && activity.duration != 0, Question::Limits)?;
     let start = activity.held <= activity.duration && activity.offset < activity.period;
-    ask(start && activity.mark < 2, 11)?;
-    for (number, other) in machine.activities.iter().enumerate() {
-        let clash = activity.meets(other) && activity.priority == other.priority;
-        ask(number == place || !clash, 12)?;
-    }
-    ask(is_admitted(machine, activity), 13)
+    ask(start && activity.mark < 2, Question::Start)?;
+    let clash = machine.activities.iter().enumerate().any(|(number, other)| {
+        number != place && activity.meets(other) && activity.priority == other.priority
+    });
+    ask(!clash, Question::NewPriority)?;
+    ask(is_admitted(machine, activity), Question::Admission)
 }
 
 pub fn ask_entry(machine: &Machine, activity: &Activity) -> Result<(), Question> {
     let count = machine.activities.len();
-    ask(count < 64, 8)?;
-    ask(activity.period != 0 && activity.period <= 1_000_000, 9)?;
-    ask_record(machine, count, activity)
+    ask(count < 64, Question::RoomForItem)?;
+    let period = (1..=1_000_000).contains(&activity.period);
+    ask(period, Question::Period)?;
+    ask_figures(machine, count, activity)
 }
 
 pub fn ask_change(machine: &Machine, number: usize, activity: &Activity) -> Result<(), Question> {
-    ask(number < machine.activities.len(), 14)?;
-    let old = machine.activity(number);
+    let old = machine.activities.get(number).ok_or(Question::KnownItem)?;
     let same = old.meets(activity) && old.mark == activity.mark && old.period == activity.period;
-    ask(same, 15)?;
-    ask_record(machine, number, activity)
+    ask(same, Question::SameItem)?;
+    ask_figures(machine, number, activity)
 }
 
 pub fn ask_link(machine: &Machine, link: Link) -> Result<(), Question> {
-    let count = machine.activities.len();
-    ask(link.from < count && link.to < count, 14)?;
-    let from = machine.activity(link.from);
-    let to = machine.activity(link.to);
-    ask(link.from < link.to && from.period == to.period, 16)?;
-    for other in machine.links.iter() {
-        ask(*other != link, 17)?;
+    let activities = machine.activities.as_slice();
+    let from = activities.get(link.from).ok_or(Question::KnownItem)?;
+    let to = activities.get(link.to).ok_or(Question::KnownItem)?;
+    let rising = link.from < link.to && from.period == to.period;
+    ask(rising, Question::ArcOrder)?;
+    ask(!machine.links.as_slice().contains(&link), Question::NewArc)?;
+    ask(machine.links.len() < 128, Question::RoomForArc)
+}
+
+pub fn ask_record(machine: &Machine, record: &Record) -> Result<(), Question> {
+    match record {
+        Record::Station(station) => ask_station(machine, station),
+        Record::Activity(activity) => ask_entry(machine, activity),
+        Record::Link(link) => ask_link(machine, *link),
     }
-    ask(machine.links.len() < 128, 18)
 }

@@ -1,28 +1,45 @@
 //! The reckoner's own reading of the two files: first where the records lie, then what they say.
-use crate::machine::{Activity, Link, Machine, Name, Station};
-use crate::questions::{ask_entry, ask_link, ask_station};
-use crate::verdict::{Fault, Question, Source};
+use crate::machine::{Activity, Kind, Link, Machine, Name, Record, Station, spelled};
+use crate::question::{Question, ask};
+use crate::questions::ask_record;
+use crate::source::{Files, Source};
+use crate::verdict::Fault;
 use std::alloc::{AllocError, Global};
 
-/// Where a record lies, and what its head says.
-#[derive(Clone, Copy)]
-struct Row {
-    place: usize,
-    kind: u32,
-    length: usize,
-}
+const MOST_BYTES: usize = 16384;
 
-impl Row {
-    fn body(&self) -> usize {
-        self.place.saturating_add(4)
-    }
+/// A record as it lies in a file.
+#[derive(Clone, Copy)]
+struct Row<'a> {
+    place: usize,
+    kind: Option<Kind>,
+    body: &'a [u8],
 }
 
 /// The rows of a file, and the place of one that is not whole.
 #[derive(Drop)]
-struct Rows {
-    rows: Vec<Row>,
+struct Rows<'a> {
+    rows: Vec<Row<'a>>,
     torn: Option<usize>,
+}
+
+/// Why a file was not read to its end.
+#[derive(Drop)]
+pub enum Stop {
+    Faulty(Fault),
+    OutOfMemory(AllocError),
+}
+
+impl From<Fault> for Stop {
+    fn from(fault: Fault) -> Stop {
+        Stop::Faulty(fault)
+    }
+}
+
+impl From<AllocError> for Stop {
+    fn from(error: AllocError) -> Stop {
+        Stop::OutOfMemory(error)
+    }
 }
 
 fn byte_at(bytes: &[u8], place: usize) -> u8 {
@@ -41,139 +58,101 @@ fn word_at(bytes: &[u8], place: usize) -> u32 {
     high.saturating_mul(65536).saturating_add(low)
 }
 
-fn find_rows(heap: Global, bytes: &[u8]) -> Result<Rows, AllocError> {
+fn find_rows<'a>(heap: Global, bytes: &'a [u8]) -> Result<Rows<'a>, AllocError> {
     let mut rows = Vec::new(heap);
+    let mut rest = bytes;
     let mut place: usize = 0;
-    for _ in 0..bytes.len() {
-        if place >= bytes.len() {
+    while let Some((head, tail)) = rest.split_at_checked(4) {
+        let length = pair_at(head, 0) as usize;
+        let Some((body, next)) = tail.split_at_checked(length) else {
             break;
-        }
-        let length = pair_at(bytes, place) as usize;
-        let end = place.saturating_add(4).saturating_add(length);
-        if end > bytes.len() {
-            return Ok(Rows {
-                rows,
-                torn: Some(place),
-            });
-        }
-        let kind = pair_at(bytes, place.saturating_add(2));
-        rows.push(Row {
-            place,
-            kind,
-            length,
-        })?;
-        place = end;
+        };
+        let kind = Kind::numbered(pair_at(head, 2));
+        rows.push(Row { place, kind, body })?;
+        place = place.saturating_add(4).saturating_add(length);
+        rest = next;
     }
-    Ok(Rows { rows, torn: None })
+    let torn = if rest.is_empty() { None } else { Some(place) };
+    Ok(Rows { rows, torn })
 }
 
-fn station_at(bytes: &[u8], at: usize) -> Station {
+fn station_in(body: &[u8]) -> Station {
     Station {
-        class: byte_at(bytes, at),
-        number: byte_at(bytes, at.saturating_add(1)),
-        first: word_at(bytes, at.saturating_add(2)),
-        second: word_at(bytes, at.saturating_add(6)),
-        third: pair_at(bytes, at.saturating_add(10)),
+        class: byte_at(body, 0),
+        number: byte_at(body, 1),
+        first: word_at(body, 2),
+        second: word_at(body, 6),
+        third: pair_at(body, 10),
     }
 }
 
-fn name_at(bytes: &[u8], at: usize, length: usize) -> Name {
-    let mut name = [b' '; 16];
-    for (k, slot) in name.iter_mut().enumerate() {
-        if k < length {
-            *slot = byte_at(bytes, at.saturating_add(k));
-        }
-    }
-    Name {
-        bytes: name,
-        length,
-    }
+/// A name of these bytes, if all are letters that a name may have.
+fn name_in(bytes: &[u8]) -> Result<Name, Question> {
+    let right = bytes.iter().all(|letter| letter.is_ascii_lowercase()
+        || letter.is_ascii_digit()
+        || *letter == b'-');
+    ask(right, Question::Spelling)?;
+    Ok(spelled(bytes))
 }
 
-fn activity_at(bytes: &[u8], row: Row) -> Activity {
-    let at = row.body();
-    Activity {
-        class: byte_at(bytes, at),
-        station: byte_at(bytes, at.saturating_add(1)),
-        mark: byte_at(bytes, at.saturating_add(2)),
-        priority: byte_at(bytes, at.saturating_add(3)),
-        queue: byte_at(bytes, at.saturating_add(4)),
-        size: byte_at(bytes, at.saturating_add(5)),
-        period: word_at(bytes, at.saturating_add(6)),
-        duration: word_at(bytes, at.saturating_add(10)),
-        held: word_at(bytes, at.saturating_add(14)),
-        offset: word_at(bytes, at.saturating_add(18)),
-        deadline: word_at(bytes, at.saturating_add(22)),
-        name: name_at(bytes, at.saturating_add(26), row.length.saturating_sub(26)),
-    }
-}
-
-fn link_at(bytes: &[u8], at: usize) -> Link {
-    Link {
-        from: usize::from(byte_at(bytes, at)),
-        to: usize::from(byte_at(bytes, at.saturating_add(1))),
-    }
-}
-
-fn is_spelled(name: &Name) -> bool {
-    for letter in name.bytes.iter().take(name.length) {
-        let plain = letter.is_ascii_lowercase() || letter.is_ascii_digit();
-        if !plain && *letter != b'-' {
-            return false;
-        }
-    }
-    true
-}
-
-fn ask_cell_row(known: &[Station], bytes: &[u8], row: Row) -> Result<(), Question> {
-    if row.kind != 1 {
-        return Err(Question(3));
-    }
-    if row.length != 12 {
-        return Err(Question(4));
-    }
-    ask_station(known, &station_at(bytes, row.body()))
-}
-
-fn ask_process_row(machine: &Machine, bytes: &[u8], row: Row) -> Result<(), Question> {
-    match row.kind {
-        2 if row.length < 27 || row.length > 42 => Err(Question(4)),
-        2 => {
-            let activity = activity_at(bytes, row);
-            if !is_spelled(&activity.name) {
-                return Err(Question(7));
-            }
-            ask_entry(machine, &activity)
-        }
-        3 if row.length != 2 => Err(Question(4)),
-        3 => ask_link(machine, link_at(bytes, row.body())),
-        _ => Err(Question(3)),
-    }
-}
-
-fn fault(source: Source, place: usize, question: Question) -> Option<Fault> {
-    Some(Fault {
-        source,
-        place,
-        question,
+fn activity_in(body: &[u8]) -> Result<Activity, Question> {
+    Ok(Activity {
+        class: byte_at(body, 0),
+        station: byte_at(body, 1),
+        mark: byte_at(body, 2),
+        priority: byte_at(body, 3),
+        queue: byte_at(body, 4),
+        size: byte_at(body, 5),
+        period: word_at(body, 6),
+        duration: word_at(body, 10),
+        held: word_at(body, 14),
+        offset: word_at(body, 18),
+        deadline: word_at(body, 22),
+        name: name_in(body.get(26..).unwrap_or(&[]))?,
     })
+}
+
+fn link_in(body: &[u8]) -> Link {
+    Link {
+        from: usize::from(byte_at(body, 0)),
+        to: usize::from(byte_at(body, 1)),
+    }
+}
+
+/// What a row of this file says.
+fn record_in(source: Source, row: Row<'_>) -> Result<Record, Question> {
+    let length = row.body.len();
+    match (source, row.kind) {
+        (Source::Cell, Some(Kind::Station)) => {
+            ask(length == 12, Question::Length)?;
+            Ok(Record::Station(station_in(row.body)))
+        }
+        (Source::Process, Some(Kind::Activity)) => {
+            ask(length >= 27 && length <= 42, Question::Length)?;
+            Ok(Record::Activity(activity_in(row.body)?))
+        }
+        (Source::Process, Some(Kind::Link)) => {
+            ask(length == 2, Question::Length)?;
+            Ok(Record::Link(link_in(row.body)))
+        }
+        _ => Err(Question::Kind),
+    }
+}
+
+/// What a row says, if the machine as read so far can have it.
+fn read_row(machine: &Machine, source: Source, row: Row<'_>) -> Result<Record, Question> {
+    let record = record_in(source, row)?;
+    ask_record(machine, &record)?;
+    Ok(record)
 }
 
 /// The part of the two files that a fault is about: the rest of the file where a record is not
 /// whole, nothing where the file is too long, otherwise the record.
-pub fn faulty_part(
-    heap: Global,
-    cell: &[u8],
-    process: &[u8],
-    fault: &Fault,
-) -> Result<Vec<u8>, AllocError> {
-    let bytes = match fault.source {
-        Source::Cell => cell,
-        Source::Process => process,
-    };
-    let length = match fault.question.0 {
-        1 => 0,
-        2 => bytes.len(),
+pub fn faulty_part(heap: Global, files: Files<'_>, fault: &Fault) -> Result<Vec<u8>, AllocError> {
+    let bytes = files.of(fault.source);
+    let length = match fault.question {
+        Question::FileSize => 0,
+        Question::WholeRecord => bytes.len(),
         _ => (pair_at(bytes, fault.place) as usize).saturating_add(4),
     };
     bytes
@@ -184,50 +163,33 @@ pub fn faulty_part(
         .collect(heap)
 }
 
-/// Adds the stations of a cell file, up to its first fault.
-pub fn read_cell(
+/// Adds what one file says, up to its first fault.
+fn read_file(
     heap: Global,
+    source: Source,
     bytes: &[u8],
     machine: &mut Machine,
-) -> Result<Option<Fault>, AllocError> {
-    if bytes.len() > 16384 {
-        return Ok(fault(Source::Cell, 0, Question(1)));
+) -> Result<(), Stop> {
+    let fault = |place, question| Fault {
+        source,
+        place,
+        question,
+    };
+    ask(bytes.len() <= MOST_BYTES, Question::FileSize).map_err(|question| fault(0, question))?;
+    let Rows { rows, torn } = find_rows(heap, bytes)?;
+    for row in rows.iter() {
+        let read = read_row(machine, source, *row);
+        let record = read.map_err(|question| fault(row.place, question))?;
+        machine.add(record)?;
     }
-    let found = find_rows(heap, bytes)?;
-    for row in found.rows.iter() {
-        if let Err(question) = ask_cell_row(machine.stations.as_slice(), bytes, *row) {
-            return Ok(fault(Source::Cell, row.place, question));
-        }
-        machine.stations.push(station_at(bytes, row.body()))?;
-    }
-    match found.torn {
-        Some(place) => Ok(fault(Source::Cell, place, Question(2))),
-        None => Ok(None),
+    match torn {
+        Some(place) => Err(Stop::Faulty(fault(place, Question::WholeRecord))),
+        None => Ok(()),
     }
 }
 
-/// Adds the activities and links of a process file, up to its first fault.
-pub fn read_process(
-    heap: Global,
-    bytes: &[u8],
-    machine: &mut Machine,
-) -> Result<Option<Fault>, AllocError> {
-    if bytes.len() > 16384 {
-        return Ok(fault(Source::Process, 0, Question(1)));
-    }
-    let found = find_rows(heap, bytes)?;
-    for row in found.rows.iter() {
-        if let Err(question) = ask_process_row(machine, bytes, *row) {
-            return Ok(fault(Source::Process, row.place, question));
-        }
-        if row.kind == 2 {
-            machine.activities.push(activity_at(bytes, *row))?;
-        } else {
-            machine.links.push(link_at(bytes, row.body()))?;
-        }
-    }
-    match found.torn {
-        Some(place) => Ok(fault(Source::Process, place, Question(2))),
-        None => Ok(None),
-    }
+/// Adds what the two files say, up to the first fault, those of the cell file first.
+pub fn read_files(heap: Global, files: Files<'_>, machine: &mut Machine) -> Result<(), Stop> {
+    read_file(heap, Source::Cell, files.cell, machine)?;
+    read_file(heap, Source::Process, files.process, machine)
 }

@@ -1,17 +1,18 @@
 //! The reckoner's verdict on a pair of files.
-use crate::machine::{Machine, Outlet};
-use crate::read::{faulty_part, read_cell, read_process};
+use crate::machine::{Class, Machine, Outlet};
+use crate::read::{Stop, faulty_part, read_files};
 use crate::replay::Plan;
 use crate::rounds::least_times;
+use crate::source::Files;
 use crate::verdict::{Ending, Fault, Verdict};
-use crate::waits::bound_of;
 use std::alloc::{AllocError, Global};
 
 /// A pair of files, reckoned.
 #[derive(Drop)]
 pub struct Reckoned {
     pub verdict: Verdict,
-    pub plan: Plan,
+    pub machine: Machine,
+    // Kept apart from the bounds: the tool is asked for the same queues, whatever the verdict is.
     /// Which queues were asked for, in the order of the verdict's bounds.
     pub outlets: Vec<Outlet>,
     /// Do the whole rounds and the single steps agree?
@@ -22,7 +23,7 @@ pub struct Reckoned {
 fn outlets_of(heap: Global, machine: &Machine) -> Result<Vec<Outlet>, AllocError> {
     let mut outlets = Vec::new(heap);
     outlets.push(Outlet {
-        class: 3,
+        class: Class::Bus as u8,
         station: 0,
         queue: 1,
     })?;
@@ -37,10 +38,11 @@ fn outlets_of(heap: Global, machine: &Machine) -> Result<Vec<Outlet>, AllocError
 
 /// Do whole rounds from nothing end with the times of the plan, or at a break where it broke?
 pub fn rounds_agree(heap: Global, plan: &Plan) -> Result<bool, AllocError> {
-    match least_times(heap, &plan.machine)? {
-        Some(times) => Ok(!plan.broken && times == plan.moments),
-        None => Ok(plan.broken),
-    }
+    let found = least_times(heap, &plan.machine)?;
+    Ok(match found {
+        Some(times) => !plan.broken && times == plan.moments,
+        None => plan.broken,
+    })
 }
 
 fn run_out(heap: Global, machine: Machine) -> Result<Reckoned, AllocError> {
@@ -51,16 +53,17 @@ fn run_out(heap: Global, machine: Machine) -> Result<Reckoned, AllocError> {
     let mut lines = Vec::new(heap);
     let mut bounds = Vec::new(heap);
     if ran.ending == Ending::Settled {
-        for number in 0..plan.machine.activities.len() {
-            lines.push(plan.line(number))?;
-        }
-        for outlet in outlets.iter() {
-            bounds.push(bound_of(&plan.machine, plan.moments.as_slice(), *outlet))?;
-        }
+        lines = plan.lines(heap)?;
+        let now = plan.now();
+        bounds = outlets
+            .iter()
+            .map(|outlet| now.bound(*outlet))
+            .collect(heap)?;
     }
+    let Plan { machine, .. } = plan;
     Ok(Reckoned {
         verdict: Verdict::Ended(ran, lines, bounds),
-        plan,
+        machine,
         outlets,
         agrees,
     })
@@ -68,31 +71,24 @@ fn run_out(heap: Global, machine: Machine) -> Result<Reckoned, AllocError> {
 
 fn refuse(
     heap: Global,
+    files: Files<'_>,
     machine: Machine,
     fault: Fault,
-    part: Vec<u8>,
 ) -> Result<Reckoned, AllocError> {
+    let part = faulty_part(heap, files, &fault)?;
     Ok(Reckoned {
         verdict: Verdict::Faulty(fault, part),
-        plan: Plan::new(heap, machine)?,
+        machine,
         outlets: Vec::new(heap),
         agrees: true,
     })
 }
 
-pub fn reckon(heap: Global, cell: &[u8], process: &[u8]) -> Result<Reckoned, AllocError> {
-    let mut machine = Machine {
-        stations: Vec::new(heap),
-        activities: Vec::new(heap),
-        links: Vec::new(heap),
-    };
-    if let Some(fault) = read_cell(heap, cell, &mut machine)? {
-        let part = faulty_part(heap, cell, process, &fault)?;
-        return refuse(heap, machine, fault, part);
+pub fn reckon(heap: Global, files: Files<'_>) -> Result<Reckoned, AllocError> {
+    let mut machine = Machine::new(heap);
+    match read_files(heap, files, &mut machine) {
+        Ok(()) => run_out(heap, machine),
+        Err(Stop::Faulty(fault)) => refuse(heap, files, machine, fault),
+        Err(Stop::OutOfMemory(error)) => Err(error),
     }
-    if let Some(fault) = read_process(heap, process, &mut machine)? {
-        let part = faulty_part(heap, cell, process, &fault)?;
-        return refuse(heap, machine, fault, part);
-    }
-    run_out(heap, machine)
 }

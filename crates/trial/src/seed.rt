@@ -28,6 +28,7 @@ impl Seed {
         low.saturating_add(u32::try_from(above).unwrap_or(0))
     }
 
+    // Kept beside `number`: one function of both types would leave the type of literals open.
     pub fn byte(&mut self, low: u8, high: u8) -> u8 {
         let drawn = self.number(u32::from(low), u32::from(high));
         u8::try_from(drawn).unwrap_or(high)
@@ -44,7 +45,12 @@ impl Seed {
         self.number(1, often) == 1
     }
 
-    pub fn one_of(&mut self, choices: &[u32]) -> u32 {
-        choices.get(self.index(choices.len())).copied().unwrap_or(0)
+    /// One of the choices, where there are any.
+    pub fn any_of<T: Copy>(&mut self, choices: &[T]) -> Option<T> {
+        choices.get(self.index(choices.len())).copied()
+    }
+
+    pub fn one_of<T: Copy + Default + Drop>(&mut self, choices: &[T]) -> T {
+        self.any_of(choices).unwrap_or_default()
     }
 }

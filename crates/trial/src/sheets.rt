@@ -1,14 +1,15 @@
 //! Sheets that are filled by calls, and then called at random.
 use crate::calls::{Call, call_plan, draw_call};
-use crate::draw::{draw_machine, draw_style};
+use crate::draw::{Style, draw_machine};
 use crate::encode::cell_file;
-use crate::machine::Machine;
+use crate::machine::{Activity, Link, Machine};
+use crate::pairs::Trials;
 use crate::reckon::rounds_agree;
 use crate::replay::Plan;
 use crate::seed::Seed;
-use crate::tally::{Matter, Tally};
-use crate::tool::{ToolSheet, call_tool, empty_sheet, tool_enough};
-use crate::verdict::{Answer, Ending};
+use crate::tally::Matter;
+use crate::tool::ToolSheet;
+use crate::verdict::{Answer, Ending, Ran};
 use std::alloc::{AllocError, Global};
 
 /// How many calls are drawn for each sheet.
@@ -24,64 +25,75 @@ struct Pair {
 
 /// Whether whole rounds from nothing come to the same, where a run came to an end.
 fn ends_alike(heap: Global, plan: &Plan, answer: &Answer) -> Result<bool, AllocError> {
-    let Answer::Ran(ran) = answer else {
-        return Ok(true);
-    };
-    match ran.ending {
-        Ending::Spent => Ok(true),
-        Ending::Settled | Ending::Broken(_, _) => rounds_agree(heap, plan),
+    match answer {
+        Answer::Ran(
+            Ran {
+                ending: Ending::Settled | Ending::Broken(_, _),
+                ..
+            },
+        ) => rounds_agree(heap, plan),
+        _ => Ok(true),
     }
 }
 
 impl Pair {
-    fn call(&mut self, heap: Global, call: Call, tally: &mut Tally) -> Result<(), AllocError> {
+    fn call(&mut self, trials: &mut Trials, call: Call) -> Result<(), AllocError> {
+        let heap = trials.heap;
+        let answer = self.sheet.call(heap, &call)?;
         let expected = call_plan(heap, &mut self.plan, call)?;
-        let answer = call_tool(heap, &mut self.sheet, call)?;
-        tally.note_answer(&expected);
-        if answer != expected {
-            tally.note_difference(self.number, Matter::Calls)?;
-        }
-        if !ends_alike(heap, &self.plan, &expected)? {
-            tally.note_difference(self.number, Matter::Rounds)?;
+        let alike = ends_alike(heap, &self.plan, &expected)?;
+        let tally = &mut trials.tally;
+        tally.note_answer(&expected)?;
+        tally.note(answer == expected, self.number, Matter::Calls)?;
+        tally.note(alike, self.number, Matter::Rounds)
+    }
+
+    /// Enters all activities, and then all arcs.
+    fn fill(
+        &mut self,
+        trials: &mut Trials,
+        activities: &[Activity],
+        links: &[Link],
+    ) -> Result<(), AllocError> {
+        let entries = activities.iter().map(|activity| Call::Enter(*activity));
+        let arcs = links.iter().map(|link| Call::Join(*link));
+        for call in entries.chain(arcs) {
+            self.call(trials, call)?;
         }
         Ok(())
     }
 }
 
-/// Tries calls on the sheet that the seed with this number gives.
-pub fn try_sheet(heap: Global, number: u64, tally: &mut Tally) -> Result<(), AllocError> {
-    let mut seed = Seed::new(number.wrapping_add(1 << 32));
-    let style = draw_style(&mut seed);
-    let drawn = draw_machine(heap, &mut seed, &style)?;
-    let cell = cell_file(heap, &drawn)?;
-    let Machine {
-        stations,
-        activities,
-        links,
-    } = drawn;
-    let bare = Machine {
-        stations,
-        activities: Vec::new(heap),
-        links: Vec::new(heap),
-    };
-    let mut pair = Pair {
-        number,
-        sheet: empty_sheet(cell.bytes.as_slice()),
-        plan: Plan::new(heap, bare)?,
-    };
-    tally.note_sheet();
-    for activity in activities.iter() {
-        pair.call(heap, Call::Enter(*activity), tally)?;
+impl Trials {
+    /// Tries calls on the sheet that the seed with this number gives.
+    pub fn try_sheet(&mut self, number: u64) -> Result<(), AllocError> {
+        let heap = self.heap;
+        let mut seed = Seed::new(number.wrapping_add(1 << 32));
+        let style = Style::draw(&mut seed);
+        let drawn = draw_machine(heap, &mut seed, &style)?;
+        let cell = cell_file(heap, &drawn)?;
+        let Machine {
+            stations,
+            activities,
+            links,
+        } = drawn;
+        let bare = Machine {
+            stations,
+            ..Machine::new(heap)
+        };
+        let mut pair = Pair {
+            number,
+            sheet: ToolSheet::empty(cell.bytes.as_slice()),
+            plan: Plan::new(heap, bare)?,
+        };
+        self.tally.note_sheet();
+        pair.fill(self, activities.as_slice(), links.as_slice())?;
+        let enough = pair.sheet.enough() == pair.plan.enough();
+        self.tally.note(enough, number, Matter::Calls)?;
+        for _ in 0..CALLS {
+            let call = draw_call(&mut seed, &pair.plan);
+            pair.call(self, call)?;
+        }
+        Ok(())
     }
-    for link in links.iter() {
-        pair.call(heap, Call::Join(*link), tally)?;
-    }
-    if tool_enough(&pair.sheet) != pair.plan.enough() {
-        tally.note_difference(number, Matter::Calls)?;
-    }
-    for _ in 0..CALLS {
-        let call = draw_call(&mut seed, &pair.plan);
-        pair.call(heap, call, tally)?;
-    }
-    Ok(())
 }

@@ -1,7 +1,8 @@
 //! Faults put into good machines and good files. Which question finds one is left to those who read
 //! the files: another fault, or none, may come of it.
+// Kept as numbers: each fault is a draw, and an enum would name what its one arm says.
 use crate::encode::Encoded;
-use crate::machine::{Activity, Link, Machine, Station};
+use crate::machine::{Activity, Class, Link, Machine, Station};
 use crate::seed::Seed;
 use std::alloc::AllocError;
 
@@ -25,20 +26,19 @@ pub fn misfit(seed: &mut Seed, good: Activity) -> Activity {
 
 /// An activity of a size at the edge of what its station takes, with the duration that goes with it.
 fn resized(seed: &mut Seed, machine: &Machine, good: Activity) -> Activity {
-    let Some(station) = machine.station(good.class, good.station) else {
+    let Some(station) = machine.station_of(&good) else {
         return good;
     };
-    match good.class {
-        3 => {
+    match good.kind() {
+        Some(Class::Bus) => {
             let size = seed.byte(8, 10);
-            let bits = u32::from(size).saturating_mul(10).saturating_add(55);
             Activity {
                 size,
-                duration: bits.saturating_mul(station.first),
+                duration: station.frame_ticks(size),
                 ..good
             }
         }
-        4 => {
+        Some(Class::Gateway) => {
             let capacity = u8::try_from(station.third).unwrap_or(0);
             Activity {
                 size: capacity.saturating_add(seed.byte(0, 1)),
@@ -62,7 +62,7 @@ pub fn stranger(seed: &mut Seed, machine: &Machine, good: Activity) -> Activity 
         6 => bad.queue = seed.byte(1, 255),
         7 => bad.held = seed.number(1, good.duration),
         8 => bad.duration = good.duration.saturating_add(1),
-        9 | 10 | 11 => bad = resized(seed, machine, good),
+        9..=11 => bad = resized(seed, machine, good),
         _ => bad.duration = good.duration.saturating_sub(1),
     }
     bad
@@ -70,52 +70,45 @@ pub fn stranger(seed: &mut Seed, machine: &Machine, good: Activity) -> Activity 
 
 pub fn spoil_activities(seed: &mut Seed, machine: &mut Machine) -> Result<(), AllocError> {
     let at = seed.index(machine.activities.len());
-    let good = machine.activity(at);
+    let good = machine.activities.get(at).copied().unwrap_or_default();
     match seed.number(0, 4) {
         0 => machine.activities.push(good)?,
-        1 | 2 => {
-            let bad = misfit(seed, good);
-            if let Some(slot) = machine.activities.get_mut(at) {
-                *slot = bad;
-            }
-        }
+        1..=2 => machine.change(at, misfit(seed, good)),
         _ => {
             let bad = stranger(seed, machine, good);
-            if let Some(slot) = machine.activities.get_mut(at) {
-                *slot = bad;
-            }
+            machine.change(at, bad);
         }
     }
     Ok(())
 }
 
-fn any_link(seed: &mut Seed, count: usize) -> Link {
-    Link {
-        from: seed.index(count),
-        to: seed.index(count),
+/// An arc of which one end or both may have no item.
+fn odd_link(seed: &mut Seed, count: usize) -> Link {
+    match seed.number(0, 3) {
+        0 => Link {
+            from: seed.index(count),
+            to: count,
+        },
+        1 => Link {
+            from: seed.index(count),
+            to: seed.index(256),
+        },
+        2 => Link {
+            from: seed.index(256),
+            to: seed.index(count),
+        },
+        _ => Link {
+            from: seed.index(count),
+            to: seed.index(count),
+        },
     }
 }
 
 pub fn spoil_links(seed: &mut Seed, machine: &mut Machine) -> Result<(), AllocError> {
-    let count = machine.activities.len();
-    let known = machine.links.get(seed.index(machine.links.len())).copied();
+    let known = seed.any_of(machine.links.as_slice());
     let bad = match known {
         Some(link) if seed.once_in(2) => link,
-        _ => match seed.number(0, 3) {
-            0 => Link {
-                from: seed.index(count),
-                to: count,
-            },
-            1 => Link {
-                from: seed.index(count),
-                to: seed.index(256),
-            },
-            2 => Link {
-                from: seed.index(256),
-                to: seed.index(count),
-            },
-            _ => any_link(seed, count),
-        },
+        _ => odd_link(seed, machine.activities.len()),
     };
     machine.links.push(bad)?;
     Ok(())
@@ -123,15 +116,10 @@ pub fn spoil_links(seed: &mut Seed, machine: &mut Machine) -> Result<(), AllocEr
 
 /// As many arcs as a sheet takes, and a few more.
 pub fn weave(machine: &mut Machine, most: usize) -> Result<(), AllocError> {
+    let count = machine.activities.len();
+    let links = (0..count).flat_map(|to| (0..to).map(move |from| Link { from, to }));
     machine.links.clear();
-    for to in 0..machine.activities.len() {
-        for from in 0..to {
-            if machine.links.len() < most {
-                machine.links.push(Link { from, to })?;
-            }
-        }
-    }
-    Ok(())
+    machine.links.extend(links.take(most))
 }
 
 fn odd_station(seed: &mut Seed, good: Station) -> Station {
@@ -158,34 +146,21 @@ pub fn spoil_stations(seed: &mut Seed, machine: &mut Machine) -> Result<(), Allo
     };
     if seed.once_in(3) {
         machine.stations.push(good)?;
-        return Ok(());
-    }
-    let bad = odd_station(seed, good);
-    if let Some(slot) = machine.stations.get_mut(at) {
-        *slot = bad;
+    } else if let Some(slot) = machine.stations.get_mut(at) {
+        *slot = odd_station(seed, good);
     }
     Ok(())
-}
-
-fn put(file: &mut Encoded, at: usize, byte: u8) {
-    if let Some(slot) = file.bytes.get_mut(at) {
-        *slot = byte;
-    }
 }
 
 /// Lengthens a file to about the most that one may have.
 fn swell(seed: &mut Seed, file: &mut Encoded) -> Result<(), AllocError> {
     let most = seed.number(16_383, 16_386) as usize;
-    for _ in file.bytes.len()..most {
-        file.bytes.push(0)?;
-    }
-    Ok(())
+    file.bytes.resize(most.max(file.bytes.len()), 0)
 }
 
 /// A byte that is next to those a name may have, or any.
 fn odd_letter(seed: &mut Seed) -> u8 {
-    let odd = seed.one_of(&[44, 46, 47, 58, 65, 90, 95, 96, 123, 128, 255, 0]);
-    u8::try_from(odd).unwrap_or(0)
+    seed.one_of(&[44, 46, 47, 58, 65, 90, 95, 96, 123, 128, 255, 0])
 }
 
 pub fn spoil_bytes(seed: &mut Seed, file: &mut Encoded) -> Result<(), AllocError> {
@@ -198,25 +173,18 @@ pub fn spoil_bytes(seed: &mut Seed, file: &mut Encoded) -> Result<(), AllocError
         .copied()
         .unwrap_or(end);
     let length = next.saturating_sub(place).saturating_sub(4);
+    let length = u8::try_from(length).unwrap_or(0);
     match seed.number(0, 9) {
         0 => swell(seed, file)?,
         1 => file.bytes.truncate(seed.index(end)),
-        2 => put(file, place.saturating_add(2), seed.byte(0, 4)),
-        3 => put(file, place.saturating_add(3), 1),
-        4 => put(
-            file,
-            place,
-            u8::try_from(length).unwrap_or(0).wrapping_sub(1),
-        ),
-        5 => put(
-            file,
-            place,
-            u8::try_from(length).unwrap_or(0).wrapping_add(1),
-        ),
-        6 => put(file, place, seed.byte(0, 50)),
-        7 => put(file, next.saturating_sub(1), odd_letter(seed)),
+        2 => file.put(place.saturating_add(2), seed.byte(0, 4)),
+        3 => file.put(place.saturating_add(3), 1),
+        4 => file.put(place, length.wrapping_sub(1)),
+        5 => file.put(place, length.wrapping_add(1)),
+        6 => file.put(place, seed.byte(0, 50)),
+        7 => file.put(next.saturating_sub(1), odd_letter(seed)),
         8 => file.bytes.push(seed.byte(0, 255))?,
-        _ => put(file, seed.index(end), seed.byte(0, 255)),
+        _ => file.put(seed.index(end), seed.byte(0, 255)),
     }
     Ok(())
 }

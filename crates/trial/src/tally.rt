@@ -1,7 +1,9 @@
 //! What was tried, and what differed.
-use crate::verdict::{Answer, Cause, Ending, Question, Verdict};
+use crate::question::Question;
+use crate::verdict::{Answer, Cause, Ending, Verdict};
 use std::alloc::{AllocError, Global};
-use std::io;
+use std::collections::BTreeMap;
+use std::fmt;
 
 /// What can differ.
 #[derive(Clone, Copy)]
@@ -18,16 +20,29 @@ pub enum Matter {
     Rounds,
 }
 
+impl fmt::Display for Matter {
+    fn fmt<W: fmt::Write>(&self, f: &mut fmt::Formatter<W>) -> fmt::Result {
+        let name = match self {
+            Matter::Files => "files",
+            Matter::Pages => "pages",
+            Matter::Exported => "exported",
+            Matter::Calls => "calls",
+            Matter::Rounds => "rounds",
+        };
+        write!(f, "{name}")
+    }
+}
+
 #[derive(Clone, Copy)]
 struct Difference {
     seed: u64,
     matter: Matter,
 }
 
-/// How often each question was answered with no, by its number.
-#[derive(Clone, Copy)]
+/// How often each question was answered with no.
+#[derive(Drop)]
 struct Refusals {
-    counts: [u64; 22],
+    counts: BTreeMap<Question, u64>,
 }
 
 #[derive(Drop)]
@@ -52,18 +67,20 @@ fn more(count: &mut u64) {
 }
 
 impl Refusals {
-    fn note(&mut self, question: Question) {
-        let number = usize::from(question.0);
-        if number < 22 {
-            self.counts[number] = self.counts[number].saturating_add(1);
+    fn none(heap: Global) -> Refusals {
+        Refusals {
+            counts: BTreeMap::new(heap),
         }
     }
 
-    fn print(&self, rt: &HostRuntime, what: &str) -> io::Result<()> {
-        for (number, count) in self.counts.iter().enumerate() {
-            if *count > 0 {
-                println!(rt; "{what} {number}: {count}")?;
-            }
+    fn note(&mut self, question: Question) -> Result<(), AllocError> {
+        more(self.counts.entry(question)?.or_insert(0));
+        Ok(())
+    }
+
+    fn write<W: fmt::Write>(&self, f: &mut fmt::Formatter<W>, what: &str) -> fmt::Result {
+        for (question, count) in self.counts.iter() {
+            writeln!(f, "{what} {question}: {count}")?;
         }
         Ok(())
     }
@@ -71,7 +88,6 @@ impl Refusals {
 
 impl Tally {
     pub fn new(heap: Global) -> Tally {
-        let none = Refusals { counts: [0; 22] };
         Tally {
             pairs: 0,
             settled: 0,
@@ -80,80 +96,79 @@ impl Tally {
             broken_by_limit: 0,
             times: 0,
             bounds: 0,
-            refusals: none,
+            refusals: Refusals::none(heap),
             sheets: 0,
             calls: 0,
-            refused_calls: none,
+            refused_calls: Refusals::none(heap),
             differ: 0,
             first: Vec::new(heap),
         }
     }
 
-    pub fn note_verdict(&mut self, verdict: &Verdict) {
+    fn note_ending(&mut self, ending: Ending) {
+        let count = match ending {
+            Ending::Settled => &mut self.settled,
+            Ending::Spent => &mut self.spent,
+            Ending::Broken(_, Cause::Input) => &mut self.broken_by_input,
+            Ending::Broken(_, Cause::Limit) => &mut self.broken_by_limit,
+        };
+        more(count);
+    }
+
+    pub fn note_verdict(&mut self, verdict: &Verdict) -> Result<(), AllocError> {
         more(&mut self.pairs);
         match verdict {
-            Verdict::Faulty(fault, _) => self.refusals.note(fault.question),
+            Verdict::Faulty(fault, _) => self.refusals.note(fault.question)?,
             Verdict::Ended(ran, lines, bounds) => {
                 self.times = self.times.saturating_add(lines.len() as u64);
                 self.bounds = self.bounds.saturating_add(bounds.len() as u64);
-                match ran.ending {
-                    Ending::Settled => more(&mut self.settled),
-                    Ending::Spent => more(&mut self.spent),
-                    Ending::Broken(_, Cause::Input) => more(&mut self.broken_by_input),
-                    Ending::Broken(_, Cause::Limit) => more(&mut self.broken_by_limit),
-                }
+                self.note_ending(ran.ending);
             }
         }
+        Ok(())
     }
 
     pub fn note_sheet(&mut self) {
         more(&mut self.sheets);
     }
 
-    pub fn note_answer(&mut self, answer: &Answer) {
+    pub fn note_answer(&mut self, answer: &Answer) -> Result<(), AllocError> {
         more(&mut self.calls);
-        if let Answer::Refused(question) = answer {
-            self.refused_calls.note(*question);
+        match answer {
+            Answer::Refused(question) => self.refused_calls.note(*question),
+            _ => Ok(()),
         }
     }
 
-    /// Keeps the first few differences, each with the seed that leads to it.
-    pub fn note_difference(&mut self, seed: u64, matter: Matter) -> Result<(), AllocError> {
-        more(&mut self.differ);
-        if self.first.len() < 10 {
-            self.first.push(Difference { seed, matter })?;
+    /// Counts a difference where there is one, and keeps the first few with the seeds that lead to
+    /// them.
+    pub fn note(&mut self, alike: bool, seed: u64, matter: Matter) -> Result<(), AllocError> {
+        if !alike {
+            more(&mut self.differ);
+            if self.first.len() < 10 {
+                self.first.push(Difference { seed, matter })?;
+            }
         }
         Ok(())
     }
+}
 
-    fn print_differences(&self, rt: &HostRuntime) -> io::Result<()> {
-        for difference in self.first.iter() {
-            let what = match difference.matter {
-                Matter::Files => "files",
-                Matter::Pages => "pages",
-                Matter::Exported => "exported",
-                Matter::Calls => "calls",
-                Matter::Rounds => "rounds",
-            };
-            let seed = difference.seed;
-            println!(rt; "difference in {what} at seed {seed}")?;
+impl fmt::Display for Tally {
+    fn fmt<W: fmt::Write>(&self, f: &mut fmt::Formatter<W>) -> fmt::Result {
+        writeln!(f, "pairs of files {}", self.pairs)?;
+        writeln!(f, "settled {}", self.settled)?;
+        writeln!(f, "spent {}", self.spent)?;
+        writeln!(f, "broken by input {}", self.broken_by_input)?;
+        writeln!(f, "broken by limit {}", self.broken_by_limit)?;
+        writeln!(f, "times {}", self.times)?;
+        writeln!(f, "queue bounds {}", self.bounds)?;
+        self.refusals.write(f, "refusal")?;
+        writeln!(f, "sheets {}", self.sheets)?;
+        writeln!(f, "calls {}", self.calls)?;
+        self.refused_calls.write(f, "refused call")?;
+        for Difference { seed, matter } in self.first.iter() {
+            writeln!(f, "difference in {matter} at seed {seed}")?;
         }
-        let differ = self.differ;
-        println!(rt; "differ {differ}")
-    }
-
-    pub fn print(&self, rt: &HostRuntime) -> io::Result<()> {
-        println!(rt; "pairs of files {}", self.pairs)?;
-        println!(rt; "settled {}", self.settled)?;
-        println!(rt; "spent {}", self.spent)?;
-        println!(rt; "broken by input {}", self.broken_by_input)?;
-        println!(rt; "broken by limit {}", self.broken_by_limit)?;
-        println!(rt; "times {}", self.times)?;
-        println!(rt; "queue bounds {}", self.bounds)?;
-        self.refusals.print(rt, "refusal")?;
-        println!(rt; "sheets {}", self.sheets)?;
-        println!(rt; "calls {}", self.calls)?;
-        self.refused_calls.print(rt, "refused call")?;
-        self.print_differences(rt)
+        write!(f, "differ {}", self.differ)
     }
 }

@@ -1,21 +1,23 @@
 //! The tool: what it makes of two files, and of calls on one of its sheets.
 use crate::calls::Call;
-use crate::machine::{Activity, Outlet};
-use crate::verdict::{
-    Answer, Became, Bound, Cause, Ending, Fault, Line, Question, Ran, Source, Verdict,
-};
-use files_next::cell::make_bank;
-use files_next::faulty::faulty;
-use files_next::process::make_sheet;
+use crate::machine::{Activity, Link, Outlet};
+use crate::question::Question;
+use crate::source::{Files, Source};
+use crate::verdict::{Answer, Became, Bound, Cause, Ending, Fault, Line, Ran, Verdict};
+use files::cell::make_bank;
+use files::faulty::faulty;
+use files::process::make_sheet;
 use linked::linked::{Told, ToldTimes, vojemity_tell};
 use model::item::Item;
+use model::queue::Queue;
 use promise::outcome;
-use records_next::fault;
+use records::fault;
 use report::tell::tell;
 use rules::all::AllClasses;
 use sheet::sheet::Sheet;
 use std::alloc::{AllocError, Global};
 
+// Kept beside the reckoner's own such record, `UNTOUCHED`: neither side knows the other's types.
 /// What stands in a caller's table before times are written into it.
 const BLANK: outcome::Line = outcome::Line {
     number: 77,
@@ -30,230 +32,249 @@ pub struct ToolSheet {
     sheet: Sheet<AllClasses>,
 }
 
-fn item_of(activity: &Activity) -> Item {
-    Item {
-        class: activity.class,
-        station: activity.station,
-        mark: activity.mark,
-        priority: activity.priority,
-        queue: activity.queue,
-        size: activity.size,
-        period: activity.period,
-        duration: activity.duration,
-        held: activity.held,
-        offset: activity.offset,
-        deadline: activity.deadline,
+impl From<&Activity> for Item {
+    fn from(activity: &Activity) -> Item {
+        Item {
+            class: activity.class,
+            station: activity.station,
+            mark: activity.mark,
+            priority: activity.priority,
+            queue: activity.queue,
+            size: activity.size,
+            period: activity.period,
+            duration: activity.duration,
+            held: activity.held,
+            offset: activity.offset,
+            deadline: activity.deadline,
+        }
     }
 }
 
-fn cause_of(cause: outcome::Cause) -> Cause {
-    match cause {
-        outcome::Cause::Input => Cause::Input,
-        outcome::Cause::Limit => Cause::Limit,
+impl From<outcome::Cause> for Cause {
+    fn from(cause: outcome::Cause) -> Cause {
+        match cause {
+            outcome::Cause::Input => Cause::Input,
+            outcome::Cause::Limit => Cause::Limit,
+        }
     }
 }
 
-fn became_of(became: outcome::Became) -> Became {
-    match became {
-        outcome::Became::Raised => Became::Raised,
-        outcome::Became::Quiet => Became::Quiet,
-        outcome::Became::Broke(cause) => Became::Broke(cause_of(cause)),
+impl From<outcome::Became> for Became {
+    fn from(became: outcome::Became) -> Became {
+        match became {
+            outcome::Became::Raised => Became::Raised,
+            outcome::Became::Quiet => Became::Quiet,
+            outcome::Became::Broke(cause) => Became::Broke(Cause::from(cause)),
+        }
     }
 }
 
-fn ran_of(res: outcome::RunResult) -> Ran {
-    let ending = match res.ending {
-        outcome::Ending::Settled => Ending::Settled,
-        outcome::Ending::Spent => Ending::Spent,
-        outcome::Ending::Broken { item, cause } => Ending::Broken(item, cause_of(cause)),
-    };
-    Ran {
-        ending,
-        steps: res.steps,
-        raises: res.raises,
+impl From<outcome::Ending> for Ending {
+    fn from(ending: outcome::Ending) -> Ending {
+        match ending {
+            outcome::Ending::Settled => Ending::Settled,
+            outcome::Ending::Spent => Ending::Spent,
+            outcome::Ending::Broken { item, cause } => Ending::Broken(item, Cause::from(cause)),
+        }
     }
 }
 
-fn line_of(line: &outcome::Line) -> Line {
-    Line {
-        number: line.number,
-        late: u64::from(line.late),
-        wait: u64::from(line.wait),
-        end: u64::from(line.end),
+impl From<outcome::RunResult> for Ran {
+    fn from(ran: outcome::RunResult) -> Ran {
+        Ran {
+            ending: Ending::from(ran.ending),
+            steps: ran.steps,
+            raises: ran.raises,
+        }
     }
 }
 
-fn bound_of(found: Option<outcome::QueueBound>) -> Option<Bound> {
-    match found {
-        Some(bound) => Some(Bound {
+impl From<outcome::Line> for Line {
+    fn from(line: outcome::Line) -> Line {
+        Line {
+            number: line.number,
+            late: u64::from(line.late),
+            wait: u64::from(line.wait),
+            end: u64::from(line.end),
+        }
+    }
+}
+
+impl From<outcome::QueueBound> for Bound {
+    fn from(bound: outcome::QueueBound) -> Bound {
+        Bound {
             bytes: bound.bytes,
             item: bound.item,
-        }),
-        None => None,
+        }
     }
 }
 
-fn refused(refusal: outcome::Refusal) -> Answer {
-    Answer::Refused(Question(refusal.number()))
+impl From<outcome::Refusal> for Answer {
+    fn from(refusal: outcome::Refusal) -> Answer {
+        Answer::Refused(Question::from(refusal.number()))
+    }
 }
 
-/// Times written into a table of `length` records; the whole table is told, also where the call was
-/// refused and yet wrote into it.
-fn lines_told(
-    heap: Global,
-    sheet: &Sheet<AllClasses>,
-    length: usize,
-) -> Result<Answer, AllocError> {
-    let mut table = vec![in heap; BLANK; length]?;
-    let answer = sheet.times(table.as_mut_slice());
-    let mut lines = Vec::new(heap);
-    let mut untouched = true;
-    for line in table.iter() {
-        untouched = untouched && *line == BLANK;
-        lines.push(line_of(line))?;
+impl From<fault::SourceFile> for Source {
+    fn from(file: fault::SourceFile) -> Source {
+        match file {
+            fault::SourceFile::Cell => Source::Cell,
+            fault::SourceFile::Process => Source::Process,
+        }
     }
+}
+
+impl From<fault::Fault> for Fault {
+    fn from(fault: fault::Fault) -> Fault {
+        Fault {
+            source: Source::from(fault.file),
+            place: fault.place,
+            question: Question::from(fault.refusal.number()),
+        }
+    }
+}
+
+/// What a call answers that is refused or gives something.
+fn answered<T, G: FnOnce(T) -> Answer>(answer: Result<T, outcome::Refusal>, granted: G) -> Answer
+    requires { G.IsAlwaysCallable granted }
+{
     match answer {
-        Err(refusal) if untouched => Ok(refused(refusal)),
-        _ => Ok(Answer::Told(lines)),
+        Ok(given) => granted(given),
+        Err(refusal) => Answer::from(refusal),
     }
 }
 
-fn ask_bound(sheet: &Sheet<AllClasses>, outlet: Outlet) -> Answer {
-    match sheet.queue_bound(outlet.class, outlet.station, outlet.queue) {
-        Ok(found) => Answer::Bounded(bound_of(found)),
-        Err(refusal) => refused(refusal),
+impl ToolSheet {
+    /// An empty sheet over the bank of a cell file.
+    pub fn empty(cell: &[u8]) -> ToolSheet {
+        let (bank, _) = make_bank(cell);
+        ToolSheet {
+            sheet: Sheet::new(bank),
+        }
     }
-}
 
-fn granted(answer: Result<(), outcome::Refusal>) -> Answer {
-    match answer {
-        Ok(()) => Answer::Granted,
-        Err(refusal) => refused(refusal),
+    /// Times written into a table of `length` records; the whole table is told, also where the call
+    /// was refused and yet wrote into it.
+    fn times(&self, heap: Global, length: usize) -> Result<Answer, AllocError> {
+        let mut table = vec![in heap; BLANK; length]?;
+        let answer = self.sheet.times(table.as_mut_slice());
+        let untouched = table.iter().all(|line| *line == BLANK);
+        match answer {
+            Err(refusal) if untouched => Ok(Answer::from(refusal)),
+            _ => {
+                let lines = table.iter().map(|line| Line::from(*line)).collect(heap)?;
+                Ok(Answer::Told(lines))
+            }
+        }
     }
-}
 
-/// What the tool's sheet answers to a call.
-pub fn call_tool(heap: Global, tool: &mut ToolSheet, call: Call) -> Result<Answer, AllocError> {
-    let sheet = &mut tool.sheet;
-    let answer = match call {
-        Call::Enter(activity) => match sheet.entry(item_of(&activity)) {
-            Ok(number) => Answer::Entered(number),
-            Err(refusal) => refused(refusal),
-        },
-        Call::Join(link) => granted(sheet.arc(link.from, link.to)),
-        Call::Change(number, activity) => granted(sheet.change(number, item_of(&activity))),
-        Call::Step(number) => match sheet.step(number) {
-            Ok((became, end)) => Answer::Stepped(became_of(became), u64::from(end)),
-            Err(refusal) => refused(refusal),
-        },
-        Call::Run(allowance) => match sheet.run(allowance) {
-            Ok(result) => Answer::Ran(ran_of(result)),
-            Err(refusal) => refused(refusal),
-        },
-        Call::Times(length) => lines_told(heap, sheet, length)?,
-        Call::Queue(outlet) => ask_bound(sheet, outlet),
-    };
-    Ok(answer)
-}
+    fn bound(&self, outlet: Outlet) -> Answer {
+        let Outlet {
+            class,
+            station,
+            queue,
+        } = outlet;
+        let queue = Queue {
+            class,
+            station,
+            queue,
+        };
+        answered(self.sheet.queue_bound(queue), |found| {
+            Answer::Bounded(found.map(Bound::from))
+        })
+    }
 
-/// The allowance that the tool holds to be enough.
-pub fn tool_enough(tool: &ToolSheet) -> u64 {
-    tool.sheet.enough()
-}
+    /// What the sheet answers to a call.
+    pub fn call(&mut self, heap: Global, call: &Call) -> Result<Answer, AllocError> {
+        let sheet = &mut self.sheet;
+        Ok(match call {
+            Call::Enter(activity) => answered(sheet.entry(Item::from(activity)), Answer::Entered),
+            Call::Join(Link { from, to }) => answered(sheet.arc(*from, *to), |()| Answer::Granted),
+            Call::Change(number, activity) => {
+                let changed = sheet.change(*number, Item::from(activity));
+                answered(changed, |()| Answer::Granted)
+            }
+            Call::Step(number) => answered(sheet.step(*number), |(became, end)| {
+                Answer::Stepped(Became::from(became), u64::from(end))
+            }),
+            Call::Run(allowance) => {
+                answered(sheet.run(*allowance), |ran| Answer::Ran(Ran::from(ran)))
+            }
+            Call::Times(length) => self.times(heap, *length)?,
+            Call::Queue(outlet) => self.bound(*outlet),
+        })
+    }
 
-/// An empty sheet of the tool over the bank of a cell file.
-pub fn empty_sheet(cell: &[u8]) -> ToolSheet {
-    let (bank, _) = make_bank(cell);
-    ToolSheet {
-        sheet: Sheet::new(bank),
+    /// The allowance that the tool holds to be enough.
+    pub fn enough(&self) -> u64 {
+        self.sheet.enough()
+    }
+
+    /// What the sheet comes to, with the bounds of these queues.
+    fn run_out(&mut self, heap: Global, outlets: &[Outlet]) -> Result<Verdict, AllocError> {
+        let ran = match self.sheet.run(self.sheet.enough()) {
+            Ok(ran) => Ran::from(ran),
+            Err(_) => Ran {
+                ending: Ending::Spent,
+                steps: 0,
+                raises: 0,
+            },
+        };
+        let mut lines = Vec::new(heap);
+        let mut bounds = Vec::new(heap);
+        if ran.ending == Ending::Settled {
+            if let Answer::Told(told) = self.times(heap, self.sheet.count())? {
+                lines = told;
+            }
+            for outlet in outlets {
+                if let Answer::Bounded(found) = self.bound(*outlet) {
+                    bounds.push(found)?;
+                }
+            }
+        }
+        Ok(Verdict::Ended(ran, lines, bounds))
     }
 }
 
 /// A verdict on faulty files, with the part that the tool hands out.
-fn refuse(
-    heap: Global,
-    cell: &[u8],
-    process: &[u8],
-    found: &fault::Fault,
-) -> Result<Verdict, AllocError> {
-    let own = Fault {
-        source: match found.file {
-            fault::SourceFile::Cell => Source::Cell,
-            fault::SourceFile::Process => Source::Process,
-        },
-        place: found.place,
-        question: Question(found.refusal.number()),
-    };
-    let part = Vec::from_slice(heap, faulty(cell, process, found))?;
-    Ok(Verdict::Faulty(own, part))
-}
-
-/// What a sheet comes to, with the bounds of these queues.
-fn run_out(
-    heap: Global,
-    sheet: &mut Sheet<AllClasses>,
-    outlets: &[Outlet],
-) -> Result<Verdict, AllocError> {
-    let ran = match sheet.run(sheet.enough()) {
-        Ok(result) => ran_of(result),
-        Err(_) => Ran {
-            ending: Ending::Spent,
-            steps: 0,
-            raises: 0,
-        },
-    };
-    let mut lines = Vec::new(heap);
-    let mut bounds = Vec::new(heap);
-    if ran.ending == Ending::Settled {
-        if let Answer::Told(told) = lines_told(heap, sheet, sheet.count())? {
-            lines = told;
-        }
-        for outlet in outlets {
-            if let Answer::Bounded(found) = ask_bound(sheet, *outlet) {
-                bounds.push(found)?;
-            }
-        }
-    }
-    Ok(Verdict::Ended(ran, lines, bounds))
+fn refuse(heap: Global, files: Files<'_>, found: fault::Fault) -> Result<Verdict, AllocError> {
+    let part = Vec::from_slice(heap, faulty(files.cell, files.process, &found))?;
+    Ok(Verdict::Faulty(Fault::from(found), part))
 }
 
 /// The tool's verdict on a pair of files, with the bounds of these queues.
 pub fn through_tool(
     heap: Global,
-    cell: &[u8],
-    process: &[u8],
+    files: Files<'_>,
     outlets: &[Outlet],
 ) -> Result<Verdict, AllocError> {
-    let (bank, made) = make_bank(cell);
+    let (bank, made) = make_bank(files.cell);
     if let Err(found) = made {
-        return refuse(heap, cell, process, &found);
+        return refuse(heap, files, found);
     }
-    let (mut sheet, filled) = make_sheet(bank, process);
+    let (sheet, filled) = make_sheet(bank, files.process);
     match filled {
-        Err(found) => refuse(heap, cell, process, &found),
-        Ok(()) => run_out(heap, &mut sheet, outlets),
+        Err(found) => refuse(heap, files, found),
+        Ok(()) => ToolSheet { sheet }.run_out(heap, outlets),
     }
 }
 
 /// What the tool prints of a pair of files.
-pub fn page_by_tool(heap: Global, cell: &[u8], process: &[u8]) -> Result<String, AllocError> {
-    let report = tell(cell, process);
+pub fn page_by_tool(heap: Global, files: Files<'_>) -> Result<String, AllocError> {
+    let report = tell(files.cell, files.process);
     format!(in heap; "{report}")
 }
 
 fn same_times(times: &[ToldTimes], lines: &[Line]) -> bool {
-    let mut same = true;
-    for (own, line) in times.iter().zip(lines.iter()) {
-        same = same
-            && u64::from(own.late) == line.late
+    times.iter().zip(lines.iter()).all(|(own, line)| {
+        u64::from(own.late) == line.late
             && u64::from(own.wait) == line.wait
-            && u64::from(own.end) == line.end;
-    }
-    same
+            && u64::from(own.end) == line.end
+    })
 }
 
 /// Does the call that the static library exports tell of a pair of files what this verdict says?
-pub fn exported_agrees(cell: &[u8], process: &[u8], verdict: &Verdict) -> bool {
+pub fn exported_agrees(files: Files<'_>, verdict: &Verdict) -> bool {
     let none = ToldTimes {
         late: 0,
         wait: 0,
@@ -266,7 +287,8 @@ pub fn exported_agrees(cell: &[u8], process: &[u8], verdict: &Verdict) -> bool {
         steps: 77,
         times: [none; 64],
     };
-    vojemity_tell(cell, process, &mut told);
+    vojemity_tell(files.cell, files.process, &mut told);
+    // Kept as numbers: the C interface tells the outcome as one.
     match verdict {
         Verdict::Faulty(_, _) => told.outcome == 2,
         Verdict::Ended(ran, lines, _) if ran.ending == Ending::Settled => {

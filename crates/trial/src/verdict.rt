@@ -1,9 +1,23 @@
 //! What is compared: the answers of the reckoner and of the tool, in one form.
+// Kept beside the tool's own types that are shaped alike: the reckoner uses nothing of the tool.
+use crate::question::Question;
+use crate::source::Source;
+use std::fmt;
 
 #[derive(Clone, Copy, PartialEq)]
 pub enum Cause {
     Input,
     Limit,
+}
+
+impl fmt::Display for Cause {
+    fn fmt<W: fmt::Write>(&self, f: &mut fmt::Formatter<W>) -> fmt::Result {
+        let name = match self {
+            Cause::Input => "input",
+            Cause::Limit => "limit",
+        };
+        write!(f, "{name}")
+    }
 }
 
 #[derive(Clone, Copy, PartialEq)]
@@ -42,16 +56,6 @@ pub struct Bound {
     pub bytes: u64,
     pub item: usize,
 }
-
-#[derive(Clone, Copy, PartialEq)]
-pub enum Source {
-    Cell,
-    Process,
-}
-
-/// The number of a question that was answered with no.
-#[derive(Clone, Copy, PartialEq)]
-pub struct Question(pub u8);
 
 #[derive(Clone, Copy, PartialEq)]
 pub struct Fault {

@@ -1,7 +1,7 @@
 //! What one look at a machine and its times gives an activity: its next late time and wait, and the
 //! bytes in its queue.
-use crate::machine::{Activity, Link, Machine, Outlet};
-use crate::verdict::Bound;
+use crate::machine::{Activity, Class, Machine, Outlet};
+use crate::verdict::{Bound, Cause};
 
 /// The late time and the wait of one activity.
 #[derive(Clone, Copy, PartialEq)]
@@ -12,22 +12,12 @@ pub struct Moment {
 
 pub const START: Moment = Moment { late: 0, wait: 0 };
 
-/// What of a stronger activity is added up.
+/// A machine at given times of its activities, in their order.
 #[derive(Clone, Copy)]
-enum Weight {
-    Ticks,
-    Bytes,
-    BytesOfQueue(Outlet),
-}
-
-pub fn moment_of(moments: &[Moment], number: usize) -> Moment {
-    moments.get(number).copied().unwrap_or(START)
-}
-
-/// When an activity with these times ends.
-pub fn end_of(activity: &Activity, times: Moment) -> u64 {
-    let ready = times.late.saturating_add(times.wait);
-    ready.saturating_add(u64::from(activity.duration))
+pub struct Reckoning<'a> {
+    pub machine: &'a Machine,
+    // Kept beside the machine: a round makes a whole new list of times for the same activities.
+    pub moments: &'a [Moment],
 }
 
 fn divided_up(amount: u64, by: u64) -> u64 {
@@ -44,111 +34,158 @@ fn turns(own: &Activity, wait: u64, other: &Activity, late: u64) -> u64 {
     let jitter = late.saturating_sub(u64::from(other.offset));
     let span = wait.saturating_add(jitter);
     let period = u64::from(other.period).max(1);
-    if own.class == 2 {
+    if own.kind() == Some(Class::Processor) {
         divided_up(span.saturating_add(u64::from(own.duration)), period)
     } else {
         (span / period).saturating_add(1)
     }
 }
 
-fn weight_of(other: &Activity, weight: Weight) -> u64 {
-    match weight {
-        Weight::Ticks => u64::from(other.duration),
-        Weight::Bytes => u64::from(other.size),
-        Weight::BytesOfQueue(outlet) if other.outlet() == outlet => u64::from(other.size),
-        Weight::BytesOfQueue(_) => 0,
+impl Moment {
+    /// Is it later or longer than the old one?
+    pub fn exceeds(&self, old: &Moment) -> bool {
+        self.late > old.late || self.wait > old.wait
+    }
+
+    /// When an activity with these times ends.
+    pub fn end(&self, activity: &Activity) -> u64 {
+        let ready = self.late.saturating_add(self.wait);
+        ready.saturating_add(u64::from(activity.duration))
+    }
+
+    /// Why an activity can't have these times, if it can't.
+    pub fn breaks(&self, activity: &Activity) -> Option<Cause> {
+        if activity.mark == 1 && self.late > u64::from(activity.offset) {
+            Some(Cause::Input)
+        } else if self.end(activity) > u64::from(activity.deadline) {
+            Some(Cause::Limit)
+        } else {
+            None
+        }
     }
 }
 
-/// What the stronger ones bring before the activity has its turn.
-fn brought(machine: &Machine, moments: &[Moment], number: usize, weight: Weight) -> u64 {
-    let own = machine.activity(number);
-    let wait = moment_of(moments, number).wait;
-    let mut total: u64 = 0;
-    for (other, times) in machine.activities.iter().zip(moments.iter()) {
-        if own.meets(other) && other.priority < own.priority {
-            let often = turns(&own, wait, other, times.late);
-            total = total.saturating_add(often.saturating_mul(weight_of(other, weight)));
+impl Machine {
+    /// The machine at these times.
+    pub fn at<'a>(&'a self, moments: &'a [Moment]) -> Reckoning<'a> {
+        Reckoning {
+            machine: self,
+            moments,
         }
-    }
-    total
-}
-
-/// The longest that a weaker one keeps the station.
-fn kept_off(machine: &Machine, own: &Activity) -> u64 {
-    let mut longest: u64 = 0;
-    for other in machine.activities.iter() {
-        if own.meets(other) && other.priority > own.priority {
-            let stretch = if own.class == 2 {
-                other.held
-            } else {
-                other.duration
-            };
-            longest = longest.max(u64::from(stretch));
-        }
-    }
-    longest
-}
-
-fn wait_for(machine: &Machine, moments: &[Moment], number: usize) -> u64 {
-    let own = machine.activity(number);
-    match own.class {
-        2 | 3 => {
-            let pressed = brought(machine, moments, number, Weight::Ticks);
-            kept_off(machine, &own).saturating_add(pressed)
-        }
-        4 => {
-            let Some(gateway) = machine.station(4, own.station) else {
-                return 0;
-            };
-            let pressed = brought(machine, moments, number, Weight::Bytes);
-            let bytes = pressed.saturating_add(u64::from(own.size));
-            let rounds = divided_up(bytes, u64::from(gateway.third)).saturating_add(1);
-            rounds.saturating_mul(u64::from(gateway.first))
-        }
-        _ => 0,
     }
 }
 
-/// The next times of an activity, from the given ones of all.
-pub fn next_moment(machine: &Machine, moments: &[Moment], number: usize) -> Moment {
-    let own = machine.activity(number);
-    let mut late = u64::from(own.offset);
-    for link in machine.links.iter() {
-        let Link { from, to } = *link;
-        if to == number {
-            late = late.max(end_of(&machine.activity(from), moment_of(moments, from)));
+impl<'a> Reckoning<'a> {
+    /// An activity and its times.
+    fn timed(&self, number: usize) -> Option<(&'a Activity, Moment)> {
+        let own = self.machine.activities.get(number)?;
+        let times = self.moments.get(number)?;
+        Some((own, *times))
+    }
+
+    /// When an activity ends, or 0 where there is none.
+    pub fn end(&self, number: usize) -> u64 {
+        match self.timed(number) {
+            Some((own, times)) => times.end(own),
+            None => 0,
         }
     }
-    let wait = wait_for(machine, moments, number);
-    Moment { late, wait }
-}
 
-/// The bytes that can lie in the queue of an activity.
-fn bytes_at(machine: &Machine, moments: &[Moment], number: usize) -> u64 {
-    let own = machine.activity(number);
-    let weight = match own.class {
-        3 => Weight::BytesOfQueue(own.outlet()),
-        4 => Weight::Bytes,
-        _ => return 0,
-    };
-    u64::from(own.size).saturating_add(brought(machine, moments, number, weight))
-}
+    /// What the stronger ones bring before an activity that waits so long has its turn.
+    fn brought<F: Fn(&Activity) -> u64>(&self, own: &Activity, wait: u64, weight: F) -> u64
+        requires { F.IsAlwaysCallable weight }
+    {
+        let mut total: u64 = 0;
+        for (other, times) in self.machine.activities.iter().zip(self.moments.iter()) {
+            if own.meets(other) && other.priority < own.priority {
+                let often = turns(own, wait, other, times.late);
+                total = total.saturating_add(often.saturating_mul(weight(other)));
+            }
+        }
+        total
+    }
 
-/// The bound of a queue, if an activity uses it.
-pub fn bound_of(machine: &Machine, moments: &[Moment], outlet: Outlet) -> Option<Bound> {
-    let mut highest: Option<Bound> = None;
-    for (number, activity) in machine.activities.iter().enumerate() {
-        if activity.outlet() == outlet {
-            let bytes = bytes_at(machine, moments, number);
-            highest = match highest {
-                Some(bound) if bound.bytes >= bytes => Some(bound),
-                _ => Some(Bound {
-                    bytes,
-                    item: number,
-                }),
-            };
+    /// The longest that a weaker one keeps the station.
+    fn kept_off(&self, own: &Activity) -> u64 {
+        let holds = own.kind() == Some(Class::Processor);
+        let longest = self
+            .machine
+            .activities
+            .iter()
+            .filter(|other| own.meets(other) && other.priority > own.priority)
+            .map(|other| if holds { other.held } else { other.duration })
+            .max();
+        u64::from(longest.unwrap_or(0))
+    }
+
+    fn wait(&self, own: &Activity, wait: u64) -> u64 {
+        match own.kind() {
+            Some(Class::Processor | Class::Bus) => {
+                let pressed = self.brought(own, wait, |other| u64::from(other.duration));
+                self.kept_off(own).saturating_add(pressed)
+            }
+            Some(Class::Gateway) => {
+                let Some(gateway) = self.machine.station_of(own) else {
+                    return 0;
+                };
+                let pressed = self.brought(own, wait, |other| u64::from(other.size));
+                let bytes = pressed.saturating_add(u64::from(own.size));
+                let rounds = divided_up(bytes, u64::from(gateway.third)).saturating_add(1);
+                rounds.saturating_mul(u64::from(gateway.first))
+            }
+            Some(Class::Table) | None => 0,
         }
     }
-    highest
+
+    /// The next times of an activity, from the given ones of all.
+    pub fn next(&self, number: usize) -> Moment {
+        let Some((own, times)) = self.timed(number) else {
+            return START;
+        };
+        let ends = self
+            .machine
+            .links
+            .iter()
+            .filter(|link| link.to == number)
+            .map(|link| self.end(link.from));
+        Moment {
+            late: ends.fold(u64::from(own.offset), |late, end| late.max(end)),
+            wait: self.wait(own, times.wait),
+        }
+    }
+
+    /// The bytes that can lie in the queue of an activity that waits so long.
+    fn bytes(&self, own: &Activity, wait: u64) -> u64 {
+        let pressed = match own.kind() {
+            Some(Class::Bus) => self.brought(own, wait, |other| {
+                if other.outlet() == own.outlet() {
+                    u64::from(other.size)
+                } else {
+                    0
+                }
+            }),
+            Some(Class::Gateway) => self.brought(own, wait, |other| u64::from(other.size)),
+            _ => return 0,
+        };
+        u64::from(own.size).saturating_add(pressed)
+    }
+
+    /// The bound of a queue, if an activity uses it.
+    pub fn bound(&self, outlet: Outlet) -> Option<Bound> {
+        let timed = self.machine.activities.iter().zip(self.moments.iter());
+        timed
+            .enumerate()
+            .filter(|(_, (own, _))| own.outlet() == outlet)
+            .map(|(item, (own, times))| Bound {
+                bytes: self.bytes(own, times.wait),
+                item,
+            })
+            .reduce(|highest, bound| {
+                if bound.bytes > highest.bytes {
+                    bound
+                } else {
+                    highest
+                }
+            })
+    }
 }

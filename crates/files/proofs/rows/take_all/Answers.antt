@@ -1,32 +1,42 @@
-use Rattle.std.proofs.Common.{◌≡◌, ◌<◌, ◌≤◌, true, leb, length, drop, sym, ◌∙◌, arith}
-use Rattle.std.proofs.lemmas.List.{take_rest, length-drop, drop-drop, drop_all}
-use Rattle.std.proofs.lemmas.Bool.{le-leb}
-use Rattle.files.specs.Rows.{step_of}
-use Rattle.files.proofs.Walks.{goes, stops, ends}
+use Rattle.std.proofs.Common.{sym, ap, ◌∙◌, arith, rules}
+use Rattle.records.specs.Records.{said}
+use Rattle.files.proofs.Walks.{taken, taken_end, taken_fault, taken_row, taken_refused, rows_taken}
 use Rattle.files.proofs.rows.take_all.Goals as goal
 
-pub loop-place-preserved : goal.loop-place-preserved
-loop-place-preserved g c =
-    let bs = c.args.bytes.now in
-    let at = c.loop-place.place in
-    let v = rw take_rest at c.in-Ok.ensures.value in
-    let w = simp (take_rest, length-drop) at c.in-Ok.ensures.within in
-    let k : c.in-Ok.length ≤ length (drop at bs) = simp length-drop (omega (arith, w)) in
-    let on = goes (step_of g.I.Intake.takes c.args.file) c.args.file at c.in-Ok.length (drop at bs) c.loop-place.intake c.take_first.new.intake w.0 k v in
-    (omega (arith, w), rw drop-drop at (sym on) ∙ c.loop-place.invariant.1)
+pub loop-row-preserved : goal.loop-row-preserved
+loop-row-preserved g c =
+    let takes = g.I.Intake.takes (g.I.Intake.fixed c.args.intake.now) in
+    let file = c.args.file in
+    let s = g.I.Intake.view c.loop-row.intake in
+    let same = c.loop-row.invariant.0 in
+    let v = rw same at c.in_default.ensures.view in
+    let step = rw c.in_ok-record.was at c.in-Some.ensures.steps in
+    let here = ap (λ rows. taken takes file rows s) step ∙ taken_row takes file (said c.in_ok-record.field-0.record) c.in_ok-record.field-0.place _ s (g.I.Intake.view c.take.new.self) v in
+    (c.in_default.ensures.fixed ∙ same, sym here ∙ c.loop-row.invariant.1)
 
-pub returns-in-Err : goal.returns-in-Err
-returns-in-Err g c =
-    let bs = c.args.bytes.now in
-    let at = c.loop-place.place in
-    let v = rw take_rest at c.in-Err.ensures.value in
-    let k : 0 < length (drop at bs) = simp length-drop (omega arith) in
-    let t : leb (length bs) 16384 ≡ true = le-leb (length bs) 16384 (omega arith) in
-    rw t (sym (stops (step_of g.I.Intake.takes c.args.file) c.args.file at (drop at bs) c.loop-place.intake c.in-Err.refusal k v) ∙ c.loop-place.invariant.1)
+pub returns-in_err-record-clause-view : goal.returns-in_err-record-clause-view
+returns-in_err-record-clause-view g c =
+    let takes = g.I.Intake.takes (g.I.Intake.fixed c.args.intake.now) in
+    let file = c.args.file in
+    let s = g.I.Intake.view c.loop-row.intake in
+    let step = rw c.in_err-record.was at c.in-Some.ensures.steps in
+    let here = ap (λ rows. taken takes file rows s) step ∙ taken_fault takes file c.in_err-record.field-0.0 _ s in
+    rw (rows_taken takes file c.args.bytes.now (g.I.Intake.view c.args.intake.now) (omega arith) ∙ (sym c.loop-row.invariant.1 ∙ here)) (search rules)
 
-pub returns : goal.returns
-returns g c =
-    let bs = c.args.bytes.now in
-    let t : leb (length bs) 16384 ≡ true = le-leb (length bs) 16384 (omega arith) in
-    let last = rw (drop_all c.loop-place.place bs (omega arith)) at c.loop-place.invariant.1 in
-    rw t (sym (ends (step_of g.I.Intake.takes c.args.file) c.args.file c.loop-place.place c.loop-place.intake) ∙ last)
+pub returns-in-Err-clause-view : goal.returns-in-Err-clause-view
+returns-in-Err-clause-view g c =
+    let takes = g.I.Intake.takes (g.I.Intake.fixed c.args.intake.now) in
+    let file = c.args.file in
+    let s = g.I.Intake.view c.loop-row.intake in
+    let v = rw c.loop-row.invariant.0 at c.in-Err.ensures.view in
+    let step = rw c.in_ok-record.was at c.in-Some.ensures.steps in
+    let here = ap (λ rows. taken takes file rows s) step ∙ taken_refused takes file (said c.in_ok-record.field-0.record) c.in_ok-record.field-0.place _ s c.in-Err.refusal v in
+    sym (rows_taken takes file c.args.bytes.now (g.I.Intake.view c.args.intake.now) (omega arith) ∙ (sym c.loop-row.invariant.1 ∙ here))
+
+pub returns-clause-view : goal.returns-clause-view
+returns-clause-view g c =
+    let takes = g.I.Intake.takes (g.I.Intake.fixed c.args.intake.now) in
+    let file = c.args.file in
+    let s = g.I.Intake.view c.loop-row.intake in
+    let here = ap (λ rows. taken takes file rows s) c.in-None.ensures.steps.0 ∙ taken_end takes file s in
+    sym (rows_taken takes file c.args.bytes.now (g.I.Intake.view c.args.intake.now) (omega arith) ∙ (sym c.loop-row.invariant.1 ∙ here))

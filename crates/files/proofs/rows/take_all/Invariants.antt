@@ -1,13 +1,11 @@
-use Rattle.std.proofs.Common.{◌≡◌, ◌-◌, ◌≤◌, length, drop}
-use Rattle.files.specs.Rows.{step_of, walk}
+use Rattle.std.proofs.Common.{◌≡◌}
+use Rattle.records.specs.Rows.{rows_in, rows_left}
+use Rattle.files.proofs.Walks.{taken}
 use Rattle.files.proofs.rows.take_all.Given as goal
 
--- what is left of the file gives what the whole file gives
-abbrev pub invariant-loop-place : goal.invariant-loop-place
-invariant-loop-place g l =
-    (l.place ≤ length l.bytes)
-    × (walk (step_of g.I.Intake.takes l.file) l.file 0 l.place (drop l.place l.bytes) l.intake
-    ≡ walk (step_of g.I.Intake.takes l.file) l.file 0 0 l.bytes l.initial.intake)
-
-abbrev pub decreases-loop-place : goal.decreases-loop-place
-decreases-loop-place g l = length l.bytes - l.place
+-- the rows that are still to come give what all rows give
+abbrev pub invariant-loop-row : goal.invariant-loop-row
+invariant-loop-row g l =
+    (g.I.Intake.fixed l.intake ≡ g.I.Intake.fixed l.initial.intake)
+    × (taken (g.I.Intake.takes (g.I.Intake.fixed l.initial.intake)) l.file (rows_left l.row-iterator) (g.I.Intake.view l.intake)
+    ≡ taken (g.I.Intake.takes (g.I.Intake.fixed l.initial.intake)) l.file (rows_in l.file 0 0 l.bytes) (g.I.Intake.view l.initial.intake))

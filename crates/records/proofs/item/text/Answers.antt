@@ -1,29 +1,20 @@
-use Rattle.std.proofs.Common.{◌≡◌, ◌+◌, ◌&&◌, get_or, drop, sym, ap, ◌∙◌, arith, below_more}
-use Rattle.std.proofs.lemmas.List.{at_drop_more, at_drop_all}
-use Rattle.std.proofs.lemmas.Str.Ascii.{IsAscii-from_reads}
-use Rattle.std.proofs.lemmas.Bool.{and_left}
-use Rattle.std.proofs.lemmas.Str.{IsUtf8-from_ascii}
+use Rattle.std.proofs.Common.{◌≡◌, ℕ, ◌<◌, true, List, [], ◌∷◌, sym, arith}
+use Rattle.std.proofs.lemmas.Bool.{and_parts}
 use Rattle.std.proofs.lemmas.Bool.Decides.{nat_tests}
+use Rattle.std.proofs.lemmas.Str.Ascii.{IsAscii-nil, IsAscii-cons}
+use Rattle.std.proofs.lemmas.Str.{IsUtf8-from_ascii}
+use Rattle.std.specs.Str.{IsAscii}
 use Rattle.records.specs.Items.{is_name, is_letter}
 use Rattle.records.proofs.item.text.Goals as goal
 
-pub returns-then-not-is_letter : goal.returns-then-not-is_letter
-returns-then-not-is_letter c =
-    let i = c.loop-b.b-index in
-    let bs = c.args.bytes.now in
-    let m : is_name (drop i bs) ≡ (is_letter (get_or bs i 0) && is_name (drop (i + 1) bs)) = at_drop_more is_name bs i 0 (omega arith) in
-    sym c.loop-b.invariant.0 ∙ m ∙ and_left _ _ (sym c.if-not-is_letter.ensures)
+small : (b : ℕ) → is_letter b ≡ true → b < 128
+small b h = grind (arith, nat_tests)
 
-pub loop-b-preserved : goal.loop-b-preserved
-loop-b-preserved c =
-    let i = c.loop-b.b-index in
-    let bs = c.args.bytes.now in
-    let m : is_name (drop i bs) ≡ (is_letter (get_or bs i 0) && is_name (drop (i + 1) bs)) = at_drop_more is_name bs i 0 (omega arith) in
-    let d = c.if-not-is_letter.ensures in
-    (sym (m ∙ ap (λ v. v && is_name (drop (i + 1) bs)) (sym d)) ∙ c.loop-b.invariant.0, below_more _ _ c.loop-b.invariant.1 (grind (arith, nat_tests)))
+ascii : (bs : List ℕ) → is_name bs ≡ true → IsAscii bs
+ascii [] h = IsAscii-nil
+ascii (b ∷ bs) h =
+    let parts = and_parts (is_letter b) (is_name bs) h in
+    IsAscii-cons b bs (small b parts.0) (ascii bs parts.1)
 
 pub from_utf8_unchecked-requires : goal.from_utf8_unchecked-requires
-from_utf8_unchecked-requires c = IsUtf8-from_ascii c.args.bytes.now (IsAscii-from_reads c.args.bytes.now c.loop-b.b-index (omega arith) c.loop-b.invariant.1)
-
-pub returns : goal.returns
-returns c = (sym c.loop-b.invariant.0 ∙ at_drop_all is_name c.args.bytes.now c.loop-b.b-index (omega arith), c.from_utf8_unchecked.ensures)
+from_utf8_unchecked-requires c = IsUtf8-from_ascii c.args.bytes.now (ascii c.args.bytes.now (sym c.if-is_name.ensures))

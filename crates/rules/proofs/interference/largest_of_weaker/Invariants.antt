@@ -1,7 +1,9 @@
-use Rattle.std.proofs.Common.{◌≡◌}
+use Rattle.std.proofs.Common.{◌≡◌, ℕ}
+use Rattle.model.specs.declared.item.Item.{Item}
 use Rattle.model.specs.Folds.{largest_to}
+use Rattle.rules.specs.Figures.{Gives}
 use Rattle.rules.specs.Sums.{figure_at}
 use Rattle.rules.proofs.interference.largest_of_weaker.Given as goal
 
-abbrev pub invariant-loop-j : goal.invariant-loop-j
-invariant-loop-j g l = l.largest ≡ largest_to (figure_at g.B.Blocking.figure l.items l.i) l.j
+abbrev pub invariant-loop-other : goal.invariant-loop-other
+invariant-loop-other g l = (f : Item → ℕ) → Gives g.F.Fn l.figure f → l.largest ≡ largest_to (figure_at f l.asked.items.now l.asked.i) l.other-index

@@ -1,4 +1,0 @@
-pub mod Rows
-pub mod Cell
-pub mod Process
-pub mod Faulty

@@ -1,8 +1,0 @@
-//! The records of the two files, as they lie there, and the questions put to each.
-#![tactic(auto)]
-
-pub mod bytes;
-pub mod fault;
-mod item;
-pub mod record;
-mod station;
