@@ -18,7 +18,7 @@ LINES = {
     "1c": ("flags in a struct or beside a value", r"^ +(pub(\(crate\))? )?[a-z_]+: bool,"),
     "1d": ("errors and absences handed on by hand", r"if let Err\(|Err\(\w+\) => (return )?Err\(|Ok\(\w*(\(\))?\) => Ok\(|None => None|Some\(\w+\) => Some\("),
     "1e": ("errors returned where a question is put", r"return Err\("),
-    "3a": ("loops with a count or an index by hand", r"\bwhile |\bloop \{|for \w+ in [^{]*\.\.|\+= 1[;,]|= [\w.]+\.saturating_add\(1\)[;,]"),
+    "3a": ("loops with a count or an index by hand", r"\bwhile |\bloop \{|for \w+ in [^{]*\.\.|\+= 1[;,]|([\w.]+) = (\1|number)\.saturating_add\(1\)[;,]"),
     "3b": ("loops in all", r"\bwhile |\bloop \{|^ *for "),
     "4a": ("casts", r" as (u8|u16|u32|u64|usize)\b"),
     "4b": ("conversions as functions", r"fn \w+_(of|as)\(|fn of\("),

@@ -7,6 +7,7 @@ use model::item::Item;
 use model::rule::{ClassRule, Rule};
 
 /// The bank with no class: no record is admitted, and every wait and load is 0.
+// It stands for no function: a rule with nothing in it.
 #[derive(Drop)]
 pub struct EmptyBank;
 

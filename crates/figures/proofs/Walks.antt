@@ -1,7 +1,7 @@
 -- A run followed for so many steps, and what it makes if it ends within them. An argument is computed before
 -- the call, so a run by its definition computes both ways on at each step; here each of them waits under a λ,
 -- and only the one taken is computed.
-use Rattle.std.proofs.Common.{◌≡◌, ℕ, zero, suc, ◌+◌, Bool, true, false, cond, leb, length, Some, None, Option, refl, ap, subst}
+use Rattle.std.proofs.Common.{◌≡◌, ℕ, zero, suc, ◌+◌, Bool, true, false, cond, leb, length, Some, None, Option, refl}
 use Rattle.model.specs.Laws.{Reckoning}
 use Rattle.promise.specs.declared.outcome.Became.{Became}
 use Rattle.promise.specs.declared.outcome.Became.TheVariants.{Raised, Quiet, Broke}
@@ -31,28 +31,16 @@ abbrev pub more : ℕ → ℕ → ℕ
 more zero left = left
 more (suc n) left = suc (more n left)
 
-abbrev Missing : Option Ran → Type 0
-Missing None = Unit {0}
-Missing (Some x) = ⊥
-
-or_else : Ran → Option Ran → Ran
-or_else x None = x
-or_else x (Some y) = y
-
-same : (x y : Ran) → Some x ≡ Some y → x ≡ y
-unfolding or_else
-same x y e = ap (or_else x) e
-
 follows : (b : Bool) (o : Became) (now : Ran) (raised quiet : Unit {0} → Option Ran) (broke : Cause → Ran) (x y out : Ran) → (raised tt ≡ Some out → x ≡ out) → (quiet tt ≡ Some out → y ≡ out) → turn b o now raised quiet broke ≡ Some out → cond b now (by o x y broke) ≡ out
-follows true o now raised quiet broke x y out p q e = same now out e
+follows true o now raised quiet broke x y out p q e = cc
 follows false Raised now raised quiet broke x y out p q e = p e
 follows false Quiet now raised quiet broke x y out p q e = q e
-follows false (Broke c) now raised quiet broke x y out p q e = same (broke c) out e
+follows false (Broke c) now raised quiet broke x y out p q e = cc
 
 -- what was followed to its end is what the run makes, whatever more it is allowed
 pub walked : (wait : Reckoning) (n left : ℕ) (s : State) (i quiet steps raises : ℕ) (out : Ran) → walk wait n s i quiet steps raises ≡ Some out → run_from wait (more n left) s i quiet steps raises ≡ out
 unfolding run_from
-walked wait zero left s i quiet steps raises out e = absurd (subst Missing e tt)
+walked wait zero left s i quiet steps raises out e = absurd cc
 walked wait (suc n) left s i quiet steps raises out e =
     follows (leb (length s.items) quiet) (outcome wait s i) (ran s Settled steps raises)
     (λ u. walk wait n (written s i (found wait s i)) (next s i) 0 (steps + 1) (raises + 1))

@@ -5,6 +5,7 @@ use model::times::Times;
 use promise::outcome::Line;
 
 /// The times of a line.
+// Not `From`: both types are of other crates.
 fn of(line: Line) -> Times {
     Times {
         late: line.late,

@@ -1,11 +1,11 @@
 -- What the records of a file say, by its rows.
-use Rattle.std.proofs.Common.{◌≡◌, ℕ, zero, suc, pred, ◌+◌, List, [], ◌∷◌, Ok, Err, Result, refl, ap}
+use Rattle.std.proofs.Common.{◌≡◌, ℕ, zero, suc, pred, ◌+◌, List, [], ◌∷◌, Ok, Err, Result, refl, ap, arith}
 use Rattle.std.specs.List.{filter_map}
 use Rattle.records.specs.declared.fault.Fault.{Fault}
 use Rattle.records.specs.declared.fault.Refusal.{Refusal}
 use Rattle.records.specs.declared.fault.SourceFile.{SourceFile}
 use Rattle.records.specs.declared.fault.SourceFile.TheVariants.{Process}
-use Rattle.records.specs.Records.{Said, station, item, arc, record_of}
+use Rattle.records.specs.Records.{Said, record_of}
 use Rattle.records.specs.Rows.{rows_in}
 use Rattle.files.specs.Names.{name_of}
 use Rattle.files.specs.Process.{names_in}
@@ -41,9 +41,7 @@ module _ (file : SourceFile) where
 
 -- the names in a process file are those of its rows
 names_said : (row : Said) (place : ℕ) (rows : List Said) (others : List (Result (Said × ℕ) Fault)) → names_in rows ≡ filter_map name_of others → names_in (row ∷ rows) ≡ filter_map name_of (Ok (row, place) ∷ others)
-names_said (station new) place rows others e = e
-names_said (item new) place rows others e = ap (λ names. new.name ∷ names) e
-names_said (arc new) place rows others e = e
+names_said row place rows others e = grind arith
 
 names_front : (place b : ℕ) (bs : List ℕ) (r : Result (Said × ℕ) Refusal) → record_of Process (b ∷ bs) ≡ r → ((k : ℕ) → names_in (said_in Process k bs) ≡ filter_map name_of (rows_in Process k (place + 1) bs)) → names_in (said_in Process 0 (b ∷ bs)) ≡ filter_map name_of (rows_in Process 0 place (b ∷ bs))
 unfolding said_in rows_in

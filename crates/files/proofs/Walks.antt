@@ -47,5 +47,9 @@ module _ {S : Type 0} (takes : S → Said → Result S Refusal) (file : SourceFi
   walked (suc skip) place (b ∷ bs) s = walked skip (place + 1) bs s
   walked zero place (b ∷ bs) s = walked_row place b bs s (record_of file (b ∷ bs)) refl (λ k t. walked k (place + 1) bs t)
 
-  pub rows_taken : (bs : List ℕ) (s : S) → length bs ≤ 16384 → rows_of takes file bs s ≡ taken takes file (rows_in file 0 0 bs) s
+  rows_taken : (bs : List ℕ) (s : S) → length bs ≤ 16384 → rows_of takes file bs s ≡ taken takes file (rows_in file 0 0 bs) s
   rows_taken bs s h = rw (le-leb (length bs) 16384 h) (walked 0 0 bs s)
+
+  -- what is left of a walk, once it is known, is what the whole walk comes to
+  pub rows_come : (bs : List ℕ) (s u : S) (left rows : List (Result (Said × ℕ) Fault)) (r : Result S Fault) → length bs ≤ 16384 → taken takes file left u ≡ taken takes file (rows_in file 0 0 bs) s → left ≡ rows → taken takes file rows u ≡ r → rows_of takes file bs s ≡ r
+  rows_come bs s u left rows r short same is e = cc (rows_taken bs s short)

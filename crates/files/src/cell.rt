@@ -79,11 +79,7 @@ impl Intake for Classes {
             Figures::Can(bus) => self.can.stations.add(new.station, bus),
             Figures::Gateway(slot) => self.gateway.stations.add(new.station, slot),
         };
-        if added {
-            Ok(())
-        } else {
-            Err(Refusal::TakenStation)
-        }
+        added.then_some(()).ok_or(Refusal::TakenStation)
     }
 }
 

@@ -1,7 +1,7 @@
-ghost use Rattle.std.specs.Prelude.{◌≡◌, drop};
+ghost use Rattle.std.specs.Prelude.{◌≡◌};
 ghost use Rattle.files.specs.Faulty.{file_of, front_of, faulty_of};
 
-use records::bytes::cut;
+use records::bytes::{cut, from_place};
 use records::fault::{Fault, Refusal, SourceFile};
 
 /// Whichever of the two files is meant.
@@ -12,13 +12,6 @@ fn pick<'a>(cell: &'a [u8], process: &'a [u8], file: SourceFile) -> &'a [u8]
         SourceFile::Cell => cell,
         SourceFile::Process => process,
     }
-}
-
-/// What stands from `place` on.
-fn from_place<'a>(bytes: &'a [u8], place: usize) -> &'a [u8]
-    ensures { result.now ≡ drop place bytes.now }
-{
-    bytes.get(place..).unwrap_or(&[])
 }
 
 /// The record in front with its head, or all bytes where it is not whole.

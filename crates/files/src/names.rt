@@ -38,7 +38,8 @@ impl<'a> Iterator for ItemNames<'a> {
     ghost remaining = { item_count names_left };
 
     fn next(&mut self) -> Option<&'a str> {
-        // A loop: of `find_map` the proof learns too little of the row at which it stops.
+        // A loop: of `find_map` and `filter_map` a proof learns what they give by a function of the row,
+        // and a name is a reference, of which a row's view tells the text alone.
         while let Some(row) = self.rows.next() {
             if let Some(name) = name_in(row) {
                 return Some(name);
@@ -52,6 +53,7 @@ impl<'a> Iterator for ItemNames<'a> {
 pub fn names<'a>(file: &'a [u8]) -> [&'a str; 64]
     ensures { (i : ℕ) → i < 64 → slice_index_or (map (λ n. n.now) result) i [] ≡ slice_index_or (names_of file.now) i [] }
 {
+    // An array: a sheet has room for 64 items, and nothing is allocated.
     let mut names = [""; 64];
     let all = ItemNames {
         rows: Rows::new(SourceFile::Process, file),

@@ -11,6 +11,7 @@ use records::record::Record;
 use sheet::sheet::Sheet;
 
 /// Takes in any record, and keeps nothing.
+// It stands for no function: an intake with nothing in it.
 #[derive(Drop)]
 struct Anything;
 

@@ -43,6 +43,7 @@ pub(crate) fn take_all<I: Intake>(
     }
     for row in Rows::new(file, bytes) {
         let Row { record, place } = row?;
+        // Not `map_err`: tried, and what its closure makes of the refusal did not come through to the fault.
         if let Err(refusal) = intake.take(record) {
             return Err(Fault {
                 refusal,

@@ -1,7 +1,6 @@
 -- Sums and largests rise with their terms, and stay small where these do.
-use Rattle.std.proofs.Common.{◌≡◌, ℕ, zero, suc, ◌*◌, ◌<◌, ◌≤◌, Bool, true, false, cond, ap, ⊎_elim, add-le-add, arith}
+use Rattle.std.proofs.Common.{ℕ, zero, suc, ◌*◌, ◌<◌, ◌≤◌, Bool, true, false, cond, add-le-add, arith}
 use native.Mathlib.Nat.{max-le}
-use Rattle.std.proofs.lemmas.Bool.{cases_eq}
 use Rattle.model.specs.Folds.{sum_to, largest_to}
 
 pub sum_to_rises : (f g : ℕ → ℕ) (n : ℕ) → ((j : ℕ) → j < n → f j ≤ g j) → sum_to f n ≤ sum_to g n
@@ -30,5 +29,4 @@ largest_to_small f m (suc n) h = max-le (largest_to_small f m n (λ j lt. h j (o
 
 pub largest_to_above : (f : ℕ → ℕ) (n j : ℕ) → j < n → f j ≤ largest_to f n
 largest_to_above f zero j l = absurd (omega arith)
-largest_to_above f (suc n) j l =
-    ⊎_elim (λ (e : j ≡ n). omega (arith, ap f e)) (λ ne. let k : j < n = omega arith in omega (arith, largest_to_above f n j k)) (cases_eq j n)
+largest_to_above f (suc n) j l = grind (arith, largest_to_above f n j)

@@ -19,6 +19,7 @@ pub struct Timed<'a> {
 #[derive(Clone, Copy)]
 pub struct Asked<'a> {
     pub items: &'a [Item],
+    // Beside the items: the law compares two sets of times.
     pub times: &'a [Times],
     pub i: usize,
     ghost handed: { Handed items.now times.now },

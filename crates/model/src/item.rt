@@ -51,6 +51,7 @@ impl Item {
     }
 
     /// Is the other item of the same class and station?
+    // Two fields of eleven: a derived comparison would ask about all.
     pub fn shares_station(&self, other: &Item) -> bool
         ensures { result ≡ shares_station self.now other.now }
     {

@@ -1,6 +1,7 @@
 -- The queue bound that is answered: the largest load there, and the smallest number that reaches it.
-use Rattle.std.proofs.Common.{◌≡◌, ℕ, zero, suc, ◌<◌, ◌≤◌, Bool, true, false, cond, ltb, List, get_or, Some, None, Option, sym, refl, subst, ⊎_elim, arith}
-use Rattle.std.proofs.lemmas.Bool.{ltb-true, ltb-false, cond_both, cond-true, cond-false, cases_eq, both_ways}
+use Rattle.std.proofs.Common.{◌≡◌, ℕ, zero, suc, ◌<◌, ◌≤◌, Bool, true, false, cond, ltb, List, get_or, Some, None, Option, refl, arith}
+use Rattle.std.proofs.lemmas.Bool.{cond_both, both_ways}
+use Rattle.std.proofs.lemmas.Bool.Decides.{nat_tests}
 use Rattle.model.specs.declared.item.Item.{Item}
 use Rattle.model.specs.Items.{no_item}
 use Rattle.model.specs.Folds.{largest_to}
@@ -27,15 +28,15 @@ module _ (belongs : Item → Bool) (load : ℕ → ℕ) (xs : List Item) where
   Best n (Some b) = BestTo n b
 
   largest_none : (n : ℕ) → ((i : ℕ) → i < n → is_at i ≡ false) → largest_to load_at n ≤ 0
-  largest_none n h = largest_to_small load_at 0 n (λ j l. omega (arith, cond-false (is_at j) (load j) 0 (h j l)))
+  largest_none n h = largest_to_small load_at 0 n (λ j l. grind (arith, h j))
 
   below_largest : (n j : ℕ) → j < n → is_at j ≡ true → load j ≤ largest_to load_at n
-  below_largest n j l e = omega (arith, largest_to_above load_at n j l, cond-true (is_at j) (load j) 0 e)
+  below_largest n j l e = grind (arith, largest_to_above load_at n j l)
 
   best_yes : (n : ℕ) (o : Option QueueBound) → is_at n ≡ true → Best n o → Best (suc n) (larger o (load n) n)
   best_yes n None e h =
       record {
-        bytes = omega (arith, largest_none n h, cond-true (is_at n) (load n) 0 e);
+        bytes = grind (arith, largest_none n h);
         inside = omega arith;
         there = e;
         reached = refl;
@@ -44,14 +45,14 @@ module _ (belongs : Item → Bool) (load : ℕ → ℕ) (xs : List Item) where
   best_yes n (Some b) e h =
       cond_both (ltb b.bytes (load n)) (Some (record { bytes = load n; item = n })) (Some b) (Best (suc n))
       (λ lt. record {
-        bytes = omega (arith, h.bytes, ltb-true b.bytes (load n) lt, cond-true (is_at n) (load n) 0 e);
+        bytes = grind (arith, nat_tests, h.bytes);
         inside = omega arith;
         there = e;
         reached = refl;
-        first = λ j l t. omega (arith, h.bytes, ltb-true b.bytes (load n) lt, below_largest n j l t);
+        first = λ j l t. grind (arith, nat_tests, h.bytes, below_largest n j l t);
       })
       (λ ge. record {
-        bytes = omega (arith, h.bytes, ltb-false b.bytes (load n) ge, cond-true (is_at n) (load n) 0 e);
+        bytes = grind (arith, nat_tests, h.bytes);
         inside = omega (arith, h.inside);
         there = h.there;
         reached = h.reached;
@@ -59,10 +60,10 @@ module _ (belongs : Item → Bool) (load : ℕ → ℕ) (xs : List Item) where
       })
 
   best_no : (n : ℕ) (o : Option QueueBound) → is_at n ≡ false → Best n o → Best (suc n) o
-  best_no n None e h = λ i l. ⊎_elim (λ (s : i ≡ n). subst (λ k. is_at k ≡ false) (sym s) e) (λ ne. h i (omega arith)) (cases_eq i n)
+  best_no n None e h = λ i l. grind (arith, h)
   best_no n (Some b) e h =
       record {
-        bytes = omega (arith, h.bytes, cond-false (is_at n) (load n) 0 e);
+        bytes = grind (arith, h.bytes);
         inside = omega (arith, h.inside);
         there = h.there;
         reached = h.reached;

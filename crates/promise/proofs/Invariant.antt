@@ -1,8 +1,8 @@
 -- What a sheet's times keep: they are at most what a step finds and at most every lawful set, and every end is
 -- within its deadline.
-use Rattle.std.proofs.Common.{◌≡◌, ℕ, zero, suc, ◌<◌, ◌≤◌, ◌≢◌, List, length, get_or, set, replicate, sym, refl, ap, ◌∙◌, subst, ⊎_elim, arith}
-use Rattle.std.proofs.lemmas.List.{get_or-set_same, get_or-set_other, length-set, length-replicate}
-use Rattle.std.proofs.lemmas.Bool.{cases_eq}
+use Rattle.std.proofs.Common.{◌≡◌, ℕ, ◌<◌, ◌≤◌, List, length, get_or, set, replicate, refl, ◌∙◌, arith}
+use Rattle.std.proofs.lemmas.List.{length-set, length-replicate}
+use Rattle.std.proofs.lemmas.Grind.{common_steps, elements}
 use Rattle.model.specs.declared.arc.Arc.{Arc}
 use Rattle.model.specs.declared.item.Item.{Item}
 use Rattle.model.specs.declared.times.Times.{Times}
@@ -15,25 +15,6 @@ use Rattle.promise.specs.declared.outcome.Cause.TheVariants.{Input, Limit}
 use Rattle.promise.specs.Steps.{latest, judge}
 use Rattle.promise.proofs.Judged.{Told, quiet_if}
 use Rattle.promise.proofs.Latest.{latest_start, latest_end, latest_least, latest_mono}
-
--- a fact of each pair of times after one is written: of the one that is written, and of every other
-pub set_at : (ts : List Times) (i j : ℕ) (t : Times) (P : ℕ → Times → Type 0) → i < length ts → P i t → (j ≢ i → P j (get_or ts j no_times)) → P j (get_or (set ts i t) j no_times)
-set_at ts i j t P l same other =
-    ⊎_elim
-    (λ e. subst (λ k. P k (get_or (set ts i t) k no_times)) (sym e) (subst (P i) (sym (get_or-set_same ts i t no_times l)) same))
-    (λ ne. subst (P j) (sym (get_or-set_other ts i j t no_times ne)) (other ne))
-    (cases_eq j i)
-
-abbrev pub timed : ℕ → ℕ → Times
-timed a b = record { late = a; wait = b }
-
-pub times_same : (a b : ℕ) (t : Times) → a ≡ t.late → b ≡ t.wait → timed a b ≡ t
-times_same a b t p q = ap (λ x. timed x b) p ∙ ap (λ y. timed t.late y) q
-
-zero_at : (n i : ℕ) → get_or (replicate n no_times) i no_times ≡ no_times
-zero_at zero i = refl
-zero_at (suc n) zero = refl
-zero_at (suc n) (suc i) = zero_at n i
 
 abbrev pub late_new : List Item → List Arc → List Times → ℕ → ℕ
 late_new xs arcs ts i = latest xs ts i arcs (get_or xs i no_item).offset
@@ -68,14 +49,15 @@ inv_start wait xs arcs sound =
     record {
       sound = sound;
       paired = length-replicate _ _;
-      late_up = λ i l. omega (arith, ap (λ t. t.late) (zero_at (length xs) i));
-      wait_up = λ i l. omega (arith, ap (λ t. t.wait) (zero_at (length xs) i));
-      fits = λ i l. omega (arith, ap (λ t. t.late) (zero_at (length xs) i), ap (λ t. t.wait) (zero_at (length xs) i), (sound.valid i l).duration_high);
-      low = λ us h. record {
-        late = λ i. omega (arith, ap (λ t. t.late) (zero_at (length xs) i));
-        wait = λ i. omega (arith, ap (λ t. t.wait) (zero_at (length xs) i));
-      };
+      late_up = λ i l. grind (arith, common_steps);
+      wait_up = λ i l. grind (arith, common_steps);
+      fits = λ i l. grind (arith, common_steps, (sound.valid i l).duration_high);
+      low = λ us h. record { late = λ i. grind (arith, common_steps); wait = λ i. grind (arith, common_steps) };
     }
+
+-- a set of times is lawful by the items and arcs alone
+pub lawful_of : {wait : Reckoning} {xs ys : List Item} {arcs others : List Arc} (us : List Times) → xs ≡ ys → arcs ≡ others → Lawful wait xs arcs us → Lawful wait ys others us
+lawful_of us same joined h = rw (← same, ← joined) h
 
 module _ (wait : Reckoning) (mono : Monotone wait) (xs : List Item) (arcs : List Arc) (ts : List Times) (inv : Inv wait xs arcs ts) where
   pub lawful_handed : (us : List Times) → Lawful wait xs arcs us → Handed xs us
@@ -112,8 +94,8 @@ module _ (wait : Reckoning) (mono : Monotone wait) (xs : List Item) (arcs : List
   rises : (i : ℕ) → i < length xs → Below ts (set ts i (new wait xs arcs ts i))
   rises i l =
       record {
-        late = λ j. set_at ts i j (new wait xs arcs ts i) (λ k t. late_at ts k ≤ t.late) (omega (arith, inv.paired)) (inv.late_up i l) (λ _. omega arith);
-        wait = λ j. set_at ts i j (new wait xs arcs ts i) (λ k t. wait_at ts k ≤ t.wait) (omega (arith, inv.paired)) (inv.wait_up i l) (λ _. omega arith);
+        late = λ j. grind (arith, elements, inv.paired, inv.late_up i l);
+        wait = λ j. grind (arith, elements, inv.paired, inv.wait_up i l);
       }
 
   pub inv_step : (i : ℕ) → i < length xs → end_of (get_or xs i no_item) (new wait xs arcs ts i) ≤ (get_or xs i no_item).deadline → Inv wait xs arcs (set ts i (new wait xs arcs ts i))
@@ -123,7 +105,7 @@ module _ (wait : Reckoning) (mono : Monotone wait) (xs : List Item) (arcs : List
       let il : i < length ts = omega (arith, inv.paired) in
       let paired : length ts' ≡ length xs = length-set ts i t ∙ inv.paired in
       let fits : ((j : ℕ) → j < length xs → end_at xs ts' j ≤ (get_or xs j no_item).deadline) =
-      λ j lj. set_at ts i j t (λ k u. end_of (get_or xs k no_item) u ≤ (get_or xs k no_item).deadline) il fit (λ _. inv.fits j lj) in
+      λ j lj. grind (arith, elements, il, fit, inv.fits j lj) in
       let there : Handed xs ts' = handed xs ts' inv.sound paired fits in
       let up : Below ts ts' = rises i l in
       record {
@@ -131,14 +113,14 @@ module _ (wait : Reckoning) (mono : Monotone wait) (xs : List Item) (arcs : List
         paired = paired;
         late_up = λ j lj.
             let m : late_new xs arcs ts j ≤ late_new xs arcs ts' j = latest_mono xs ts ts' j arcs (get_or xs j no_item).offset up in
-            set_at ts i j t (λ k u. late_new xs arcs ts k ≤ late_new xs arcs ts' k → u.late ≤ late_new xs arcs ts' k) il (λ h. h) (λ _ h. omega (arith, inv.late_up j lj)) m;
+            grind (arith, elements, il, m, inv.late_up j lj);
         wait_up = λ j lj.
             let m : wait xs ts j ≤ wait xs ts' j = mono xs ts ts' j here there up lj in
-            set_at ts i j t (λ k u. wait xs ts k ≤ wait xs ts' k → u.wait ≤ wait xs ts' k) il (λ h. h) (λ _ h. omega (arith, inv.wait_up j lj)) m;
+            grind (arith, elements, il, m, inv.wait_up j lj);
         fits = fits;
         low = λ us h. record {
-          late = λ j. set_at ts i j t (λ k u. u.late ≤ late_at us k) il (over_late us h i l) (λ _. (inv.low us h).late j);
-          wait = λ j. set_at ts i j t (λ k u. u.wait ≤ wait_at us k) il (over_wait us h i l) (λ _. (inv.low us h).wait j);
+          late = λ j. grind (arith, elements, il, over_late us h i l, (inv.low us h).late j);
+          wait = λ j. grind (arith, elements, il, over_wait us h i l, (inv.low us h).wait j);
         };
       }
 
@@ -165,4 +147,4 @@ module _ (wait : Reckoning) (mono : Monotone wait) (xs : List Item) (arcs : List
   quiet_same i l t =
       let a : late_new xs arcs ts i ≡ late_at ts i = omega (arith, t.2, inv.late_up i l) in
       let b : wait xs ts i ≡ wait_at ts i = omega (arith, t.3, inv.wait_up i l) in
-      times_same _ _ (get_or ts i no_times) a b
+      rw (a, b) refl

@@ -1,6 +1,7 @@
 -- What an outcome says of an item, its times, and those that a step found.
-use Rattle.std.proofs.Common.{◌≡◌, ◌<◌, ◌≤◌, cond, ◌&&◌, ◌||◌, eqb, ltb, ◌⊎◌, refl, ◌∙◌, inl, inr, ⊎_elim}
-use Rattle.std.proofs.lemmas.Bool.{eqb-true, eqb-false, ne_eqb, ltb-true, ltb-false, le-ltb, cond_both, cond-false, cases_eq, and_parts, and_cases, or_cases, or_parts, or_from, and_left, and_right}
+use Rattle.std.proofs.Common.{◌≡◌, ◌<◌, ◌≤◌, cond, ◌&&◌, ◌||◌, eqb, ltb, ◌⊎◌, refl, inl, inr, ⊎_elim, arith}
+use Rattle.std.proofs.lemmas.Bool.{eqb-true, eqb-false, ltb-true, ltb-false, cond_both, and_parts, and_cases, or_cases, or_parts}
+use Rattle.std.proofs.lemmas.Bool.Decides.{nat_tests}
 use Rattle.model.specs.declared.item.Item.{Item}
 use Rattle.model.specs.declared.times.Times.{Times}
 use Rattle.model.specs.Items.{end_of}
@@ -34,9 +35,7 @@ told x old new =
 
 pub quiet_if : (x : Item) (old new : Times) → end_of x new ≤ x.deadline → (x.mark ≡ 1 → new.late ≤ x.offset) → new.late ≤ old.late → new.wait ≤ old.wait → judge x old new ≡ Quiet
 quiet_if x old new fit exact l w =
-    cond-false _ _ _ (⊎_elim (λ e. and_right (eqb x.mark 1) (ltb x.offset new.late) (le-ltb _ _ (exact e))) (λ ne. and_left _ _ (ne_eqb _ _ ne)) (cases_eq x.mark 1))
-    ∙ (cond-false _ _ _ (le-ltb _ _ fit)
-    ∙ cond-false _ _ _ (or_from _ _ (le-ltb _ _ l) (le-ltb _ _ w)))
+    grind (arith, nat_tests)
 
 pub by_cases : {X : Type 0} (b : Became) (x y : X) (z : Cause → X) (P : X → Type 0) → (b ≡ Raised → P x) → (b ≡ Quiet → P y) → ((c : Cause) → b ≡ Broke c → P (z c)) → P (by b x y z)
 by_cases Raised x y z P p q r = p refl

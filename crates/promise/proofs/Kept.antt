@@ -1,13 +1,11 @@
 -- What the invariant says of lawful sets: the promise of one state, and of all of them.
-use Rattle.std.proofs.Common.{◌≡◌, ℕ, ◌+◌, ◌-◌, ◌<◌, ◌≤◌, false, not, leb, List, length, get_or, Some, None, Ok, sum_by, Option, sym, ap, ◌∙◌, subst, ⊎_elim, mul-le-mul_right, add-mul, one-mul, arith}
+use Rattle.std.proofs.Common.{◌≡◌, ℕ, ◌+◌, ◌-◌, ◌<◌, ◌≤◌, false, not, leb, List, length, get_or, Some, None, Ok, sum_by, Option, sym, refl, ap, ◌∙◌, subst, mul-le-mul_right, add-mul, one-mul, arith}
 use Rattle.std.proofs.lemmas.List.{ext_get_or}
-use Rattle.std.proofs.lemmas.Bool.{ltb-true, cases_Bool, not-true}
-use Rattle.model.specs.declared.arc.Arc.{Arc}
-use Rattle.model.specs.declared.item.Item.{Item}
+use Rattle.std.proofs.lemmas.Bool.{ltb-true, false_from_ne_true, not-true}
 use Rattle.model.specs.declared.times.Times.{Times}
 use Rattle.model.specs.Items.{no_item, no_times, is_there}
 use Rattle.model.specs.Laws.{Below, Monotone, Law}
-use Rattle.model.specs.Lawful.{late_at, wait_at, end_at, Lawful}
+use Rattle.model.specs.Lawful.{late_at, wait_at, end_at}
 use Rattle.model.proofs.Folds.{largest_to_rises, cond_rises}
 use Rattle.promise.specs.declared.outcome.Became.{Became}
 use Rattle.promise.specs.declared.outcome.Became.TheVariants.{Quiet}
@@ -23,10 +21,10 @@ use Rattle.promise.specs.Calls.{ask, step_ask, run_ask, settled_ask, run_answer,
 use Rattle.promise.specs.Promise.{LawfulFor, IsSettled, room, enough, load_there, bound_of, Tells, Decided, RunKept, BoundKept, AnswerKept, Kept, Agree, Promised, Leaves}
 use Rattle.promise.proofs.Latest.{end_mono}
 use Rattle.promise.proofs.Judged.{Told, told}
-use Rattle.promise.proofs.Invariant.{lawful_handed, here, quiet_lawful, lawful_quiet, times_same}
+use Rattle.promise.proofs.Invariant.{lawful_of, lawful_handed, here, quiet_lawful, lawful_quiet}
 use Rattle.promise.proofs.Run.{slack, sum, bound, Ends, RanWell}
 use Rattle.promise.proofs.Bounds.{Best, best}
-use Rattle.promise.proofs.Whole.{Whole, ask_ok, then_ok, none_tells, none_from, quiet_is, after_whole, all_whole, empty_whole, step_low, run_is_well}
+use Rattle.promise.proofs.Whole.{Whole, ask_ok, then_ok, none_decides, quiet_is, after_whole, all_whole, empty_whole, step_low, run_is_well}
 
 module _ (m : Meaning) (mono : Monotone m.wait) (loads : Monotone m.load) (s : State) (w : Whole m.wait s) where
   settled_lawful : IsSettled m s → LawfulFor m s s.times
@@ -34,7 +32,7 @@ module _ (m : Meaning) (mono : Monotone m.wait) (loads : Monotone m.load) (s : S
       record {
         paired = w.inv.paired;
         each = λ i l.
-            let quiet : outcome m.wait s i ≡ Quiet = quiet_is (outcome m.wait s i) (none_tells (λ k. not (is_quiet (outcome m.wait s k))) (length s.items) h.1 i l) in
+            let quiet : outcome m.wait s i ≡ Quiet = quiet_is (outcome m.wait s i) ((none_decides (λ k. not (is_quiet (outcome m.wait s k))) (length s.items)).0 h.1 i l) in
             quiet_lawful m.wait mono s.items s.arcs s.times w.inv i l
             (subst (Told (item_at s i) (times_at s i) (found m.wait s i)) quiet (told (item_at s i) (times_at s i) (found m.wait s i)));
       }
@@ -47,8 +45,8 @@ module _ (m : Meaning) (mono : Monotone m.wait) (loads : Monotone m.load) (s : S
 
   lawful_settled : LawfulFor m s s.times → IsSettled m s
   lawful_settled h = (
-    ⊎_elim (λ e. absurd (w.none e s.times h)) (λ e. e) (cases_Bool s.broken),
-    none_from (λ k. not (is_quiet (outcome m.wait s k))) (length s.items)
+    false_from_ne_true s.broken (λ e. w.none e s.times h),
+    (none_decides (λ k. not (is_quiet (outcome m.wait s k))) (length s.items)).1
         (λ i l. ap (λ b. not (is_quiet b)) (lawful_quiet m.wait mono s.items s.arcs s.times w.inv i l (h.each i l))),
   )
 
@@ -133,10 +131,10 @@ agree : (m : Meaning) → Monotone m.wait → Monotone m.load → (s t : State) 
 agree m mono loads s t ws wt xs arcs settled =
     let mine : LawfulFor m s s.times = settled_lawful m mono loads s ws settled in
     let theirs : ((us : List Times) → LawfulFor m s us → LawfulFor m t us) =
-    λ us h. subst (λ (ys : List Item). Lawful m.wait ys t.arcs us) xs (subst (λ (bs : List Arc). Lawful m.wait s.items bs us) arcs h) in
+    λ us h. lawful_of us xs arcs h in
     let back : ((us : List Times) → LawfulFor m t us → LawfulFor m s us) =
-    λ us h. subst (λ (ys : List Item). Lawful m.wait ys s.arcs us) (sym xs) (subst (λ (bs : List Arc). Lawful m.wait t.items bs us) (sym arcs) h) in (
-      ⊎_elim (λ e. absurd (wt.none e s.times (theirs s.times mine))) (λ e. e) (cases_Bool t.broken),
+    λ us h. lawful_of us (sym xs) (sym arcs) h in (
+      false_from_ne_true t.broken (λ e. wt.none e s.times (theirs s.times mine)),
       λ also.
           let other : LawfulFor m s t.times = back t.times (settled_lawful m mono loads t wt also) in
           let up : Below s.times t.times = ws.inv.low t.times other in
@@ -145,7 +143,8 @@ agree m mono loads s t ws wt xs arcs settled =
           (λ i l.
           let a : late_at s.times i ≡ late_at t.times i = omega (arith, up.late i, down.late i) in
           let b : wait_at s.times i ≡ wait_at t.times i = omega (arith, up.wait i, down.wait i) in
-          times_same _ _ (get_or t.times i no_times) a b),
+          let same : ◌≡◌ {A = Times} (record { late = late_at s.times i; wait = wait_at s.times i }) (get_or t.times i no_times) = rw (a, b) refl in
+          same),
     )
 
 pub promised : (m : Meaning) → Law m.wait m.load → Promised m

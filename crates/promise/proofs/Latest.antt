@@ -1,6 +1,6 @@
 -- The new late time of a step: at least the offset and every end with an arc to the item, and the least such.
-use Rattle.std.proofs.Common.{◌≡◌, ℕ, zero, suc, ◌<◌, ◌≤◌, max, Bool, cond, eqb, List, [], ◌∷◌, length, get_or, arith}
-use Rattle.std.proofs.lemmas.Bool.{eqb-true, eq-eqb, cond_both, cond-true}
+use Rattle.std.proofs.Common.{◌≡◌, ℕ, zero, suc, ◌<◌, ◌≤◌, max, cond, eqb, List, [], ◌∷◌, length, get_or, arith}
+use Rattle.std.proofs.lemmas.Bool.Decides.{nat_tests}
 use Rattle.model.specs.declared.arc.Arc.{Arc}
 use Rattle.model.specs.declared.item.Item.{Item}
 use Rattle.model.specs.declared.times.Times.{Times}
@@ -9,27 +9,21 @@ use Rattle.model.specs.Laws.{Below}
 use Rattle.model.specs.Lawful.{end_at}
 use Rattle.promise.specs.Steps.{latest}
 
-more : (b : Bool) (m e : ℕ) → m ≤ cond b (max m e) m
-more b m e = cond_both b (max m e) m (λ x. m ≤ x) (λ _. omega arith) (λ _. omega arith)
-
 module _ (xs : List Item) (ts : List Times) (i : ℕ) where
   pub latest_start : (arcs : List Arc) (m : ℕ) → m ≤ latest xs ts i arcs m
   latest_start [] m = omega arith
-  latest_start (a ∷ arcs) m =
-      omega (arith, more (eqb a.to i) m (end_at xs ts a.from), latest_start arcs (cond (eqb a.to i) (max m (end_at xs ts a.from)) m))
+  latest_start (a ∷ arcs) m = grind (arith, nat_tests, latest_start arcs (cond (eqb a.to i) (max m (end_at xs ts a.from)) m))
 
   pub latest_end : (arcs : List Arc) (m k : ℕ) → k < length arcs → (get_or arcs k no_arc).to ≡ i → end_at xs ts (get_or arcs k no_arc).from ≤ latest xs ts i arcs m
   latest_end [] m k l e = absurd (omega arith)
-  latest_end (a ∷ arcs) m zero l e =
-      let c : cond (eqb a.to i) (max m (end_at xs ts a.from)) m ≡ max m (end_at xs ts a.from) = cond-true _ _ _ (eq-eqb _ _ e) in
-      omega (arith, c, latest_start arcs (cond (eqb a.to i) (max m (end_at xs ts a.from)) m))
+  latest_end (a ∷ arcs) m zero l e = grind (arith, nat_tests, latest_start arcs (cond (eqb a.to i) (max m (end_at xs ts a.from)) m))
   latest_end (a ∷ arcs) m (suc k) l e = latest_end arcs (cond (eqb a.to i) (max m (end_at xs ts a.from)) m) k (omega arith) e
 
   pub latest_least : (arcs : List Arc) (m b : ℕ) → m ≤ b → ((k : ℕ) → k < length arcs → (get_or arcs k no_arc).to ≡ i → end_at xs ts (get_or arcs k no_arc).from ≤ b) → latest xs ts i arcs m ≤ b
   latest_least [] m b l h = l
   latest_least (a ∷ arcs) m b l h =
       latest_least arcs (cond (eqb a.to i) (max m (end_at xs ts a.from)) m) b
-      (cond_both (eqb a.to i) (max m (end_at xs ts a.from)) m (λ x. x ≤ b) (λ e. let f : end_at xs ts a.from ≤ b = h 0 (omega arith) (eqb-true _ _ e) in omega arith) (λ _. l))
+      (grind (arith, nat_tests, h 0))
       (λ k lk e. h (suc k) (omega arith) e)
 
 pub end_mono : (xs : List Item) (ts us : List Times) → Below ts us → (i : ℕ) → end_at xs ts i ≤ end_at xs us i

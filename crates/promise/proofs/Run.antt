@@ -4,7 +4,8 @@
 use Rattle.std.proofs.Common.{◌≡◌, ℕ, zero, suc, ◌+◌, ◌-◌, ◌*◌, ◌<◌, ◌≤◌, true, false, cond, ltb, leb, List, [], ◌∷◌, length, get_or, set, sum_by, sym, refl, ap, ◌∙◌, subst, ⊎_elim, mul-le-mul_right, add-mul, one-mul, arith}
 use Rattle.std.proofs.lemmas.List.{set-get_or}
 use Rattle.std.proofs.lemmas.List.Sums.{sum_by-cons, sum_by-set}
-use Rattle.std.proofs.lemmas.Bool.{leb-true, leb-false, ltb-true, ltb-false, cond_both, cases_lt, both_ways}
+use Rattle.std.proofs.lemmas.Bool.{leb-true, leb-false, ltb-false, cond_both, both_ways}
+use Rattle.std.proofs.lemmas.Bool.Decides.{nat_tests}
 use Rattle.model.specs.declared.arc.Arc.{Arc}
 use Rattle.model.specs.declared.item.Item.{Item}
 use Rattle.model.specs.declared.times.Times.{Times}
@@ -36,6 +37,10 @@ sum_le [] (t ∷ ts) e h = absurd (omega arith)
 sum_le (x ∷ xs) [] e h = absurd (omega arith)
 sum_le (x ∷ xs) (t ∷ ts) e h =
     omega (arith, sum_by-cons sum t ts, sum_by-cons slack x xs, sum_le xs ts (omega arith) (λ i l. h (suc i) (omega arith)), h 0 (omega arith))
+
+-- the item after an item is one of the n
+pub next_inside : (n i : ℕ) → 0 < n → cond (ltb (i + 1) n) (i + 1) 0 < n
+next_inside n i some = grind (arith, nat_tests)
 
 -- the items of the latest q steps before i have lawful times
 pub record Covered (wait : Reckoning) (xs : List Item) (arcs : List Arc) (ts : List Times) (i q : ℕ) : Type 0 where
@@ -80,7 +85,7 @@ module _ (wait : Reckoning) (xs : List Item) (arcs : List Arc) where
       record {
         paired = inv.paired;
         each = λ j l. let il : i < length xs = small (omega arith) in
-            ⊎_elim (λ (h : j < i). cov.before j h (omega arith)) (λ (h : i ≤ j). cov.behind j h l (omega arith)) (cases_lt j i);
+            grind (arith, cov.before, cov.behind);
       }
 
   pub covered_none : (ts : List Times) (i : ℕ) → Covered wait xs arcs ts i 0
@@ -91,17 +96,14 @@ module _ (wait : Reckoning) (xs : List Item) (arcs : List Arc) where
       let at : ((j : ℕ) → j ≡ i → LawfulAt wait xs arcs ts j) = λ j e. subst (λ k. LawfulAt wait xs arcs ts k) (sym e) here in
       cond_both (ltb (i + 1) (length xs)) (i + 1) 0 (λ k. Covered wait xs arcs ts k (q + 1))
       (λ e. record {
-        before = λ j l h. ⊎_elim (λ (g : j < i). cov.before j g (omega arith)) (λ (g : i ≤ j). at j (omega arith)) (cases_lt j i);
+        before = λ j l h. grind (arith, cov.before, at);
         behind = λ j l lj h. cov.behind j (omega arith) lj (omega arith);
       })
       (λ e. let m : length xs ≤ i + 1 = ltb-false _ _ e in
       record {
         before = λ j l h. absurd (omega arith);
-        behind = λ j l lj h. ⊎_elim (λ (g : j < i). cov.before j g (omega arith)) (λ (g : i ≤ j). at j (omega arith)) (cases_lt j i);
+        behind = λ j l lj h. grind (arith, cov.before, at);
       })
-
-  next_small : (i : ℕ) → i < length xs → cond (ltb (i + 1) (length xs)) (i + 1) 0 < length xs
-  next_small i l = cond_both (ltb (i + 1) (length xs)) (i + 1) 0 (λ k. k < length xs) (λ e. omega (arith, ltb-true _ _ e)) (λ e. omega arith)
 
   stopped : (ts : List Times) (most a b : ℕ) (e : Ending) (t r : ℕ) → Inv wait xs arcs ts → t ≤ most → r ≤ sum_by slack xs → Ends wait xs arcs (a < b) ts e → RanWell wait xs arcs most a b (ran (opened xs arcs ts) e t r)
   stopped ts most a b e t r inv steps raises ends =
@@ -149,13 +151,13 @@ module _ (wait : Reckoning) (mono : Monotone wait) (xs : List Item) (arcs : List
       let w' : sum_by sum ts' ≤ sum_by slack xs = sum_le xs ts' inv'.paired inv'.fits in
       let fl = falls (sum_by slack xs - sum_by sum ts) (sum_by slack xs - sum_by sum ts') (length xs) (omega arith) in
       weaken wait xs arcs (t + 1 + f) (t + suc f) (f + 0) (bound xs ts') (suc f + q) (bound xs ts) _ (omega arith) (λ g. omega arith)
-      (run_well f ts' (next s i) 0 (t + 1) (r + 1) inv' (covered_none wait xs arcs ts' (next s i)) (λ _. next_small wait xs arcs i il) (omega arith)))
+      (run_well f ts' (next s i) 0 (t + 1) (r + 1) inv' (covered_none wait xs arcs ts' (next s i)) (λ _. next_inside (length xs) i (omega arith)) (omega arith)))
       (λ o. let h : Q Quiet = subst Q o tell in
       let same : ts' ≡ ts = ap (set ts i) (quiet_same wait mono xs arcs ts inv i il h) ∙ set-get_or ts i no_times in
       let here : LawfulAt wait xs arcs ts i = quiet_lawful wait mono xs arcs ts inv i il h in
       subst (λ (u : List Times). P (run_from wait f (opened xs arcs u) (next s i) (q + 1) (t + 1) r)) (sym same)
       (weaken wait xs arcs (t + 1 + f) (t + suc f) (f + (q + 1)) (bound xs ts) (suc f + q) (bound xs ts) _ (omega arith) (λ g. omega arith)
-      (run_well f ts (next s i) (q + 1) (t + 1) r inv (covered_more wait xs arcs ts i q il here cov) (λ _. next_small wait xs arcs i il) few)))
+      (run_well f ts (next s i) (q + 1) (t + 1) r inv (covered_more wait xs arcs ts i q il here cov) (λ _. next_inside (length xs) i (omega arith)) few)))
       (λ c o. let h : Q (Broke c) = subst Q o tell in
       let none : ((us : List Times) → Lawful wait xs arcs us → ⊥) = no_hope wait mono xs arcs ts inv c i il h in
       record { items = refl; arcs_same = refl; inv = inv; none = λ _. none; raises = omega arith; steps = omega arith; ends = none }))

@@ -1,23 +1,27 @@
 -- The promise, from the invariant over all lists of calls.
-use Rattle.std.proofs.Common.{◌≡◌, ℕ, zero, suc, ◌+◌, ◌<◌, ◌≤◌, Bool, true, false, not, List, [], ◌∷◌, ◌++◌, length, get_or, set, Ok, Err, Result, sym, refl, ap, ◌∙◌, subst, ⊎_elim, arith}
-use Rattle.std.proofs.lemmas.List.{get_or_append_left, get_or_push, length_push, get_or-set_same, get_or-set_other, length-set}
-use Rattle.std.proofs.lemmas.Bool.{ltb-true, eqb-true, cases_lt, cases_eq, both_ways, and_parts, and_from, not-true, not_from_false}
+use Rattle.std.proofs.Common.{◌≡◌, ℕ, ◌+◌, ◌<◌, Bool, true, false, not, List, [], ◌∷◌, ◌++◌, length, set, Ok, Err, Result, sym, refl, subst, arith}
+use Rattle.std.proofs.lemmas.List.{length_push, length-set}
+use Rattle.std.proofs.lemmas.Bool.{ltb-true, eqb-true, and_parts, not-true, not_from_false}
+use Rattle.std.specs.Bool.{Decides}
+use Rattle.std.proofs.lemmas.Bool.Decides.{Decides-below_and}
+use Rattle.std.proofs.lemmas.Grind.{elements}
+use Rattle.std.proofs.Math.Bool.{and_comm}
 use Rattle.model.specs.declared.arc.Arc.{Arc}
 use Rattle.model.specs.declared.item.Item.{Item}
 use Rattle.model.specs.declared.times.Times.{Times}
-use Rattle.model.specs.Items.{no_item, Valid}
+use Rattle.model.specs.Items.{Valid}
 use Rattle.model.specs.Laws.{Below, Monotone, Reckoning}
 use Rattle.model.specs.Lawful.{Lawful}
 use Rattle.promise.proofs.Valid.{valid_from, valid_changed}
 use Rattle.promise.specs.declared.outcome.Became.{Became}
-use Rattle.promise.specs.declared.outcome.Became.TheVariants.{Raised, Quiet, Broke}
+use Rattle.promise.specs.declared.outcome.Became.TheVariants.{Quiet}
 use Rattle.promise.specs.declared.outcome.Refusal.{Refusal}
 use Rattle.promise.specs.State.{State, Meaning, fresh, empty, item_at, times_at}
 use Rattle.promise.specs.Steps.{found, outcome, stepped, is_quiet}
 use Rattle.promise.specs.Runs.{Ran, run_of}
 use Rattle.promise.specs.Calls.{ask, then, none_to, entry_ask, arc_ask, change_ask, step_ask, run_ask, Call, entry, arc, change, step, run, times, queue_bound, Made, AllMade, left, after, after_all}
 use Rattle.promise.proofs.Judged.{Told, told, by_cases}
-use Rattle.promise.proofs.Invariant.{Sound, Inv, inv_start, no_hope, inv_step}
+use Rattle.promise.proofs.Invariant.{lawful_of, Sound, Inv, inv_start, no_hope, inv_step}
 use Rattle.promise.proofs.Run.{bound, RanWell, run_well, covered_none}
 
 pub record Whole (wait : Reckoning) (s : State) : Type 0 where
@@ -26,52 +30,37 @@ pub record Whole (wait : Reckoning) (s : State) : Type 0 where
 
 -- questions: what follows from a grant, and that a refusal leaves what was
 pub ask_ok : (b : Bool) (e : Refusal) (next : Result (Unit {0}) Refusal) → ask b e next ≡ Ok tt → (b ≡ true) × (next ≡ Ok tt)
-ask_ok true e next h = (refl, h)
-ask_ok false e next h = let z : ◌≡◌ {A = ℕ} 0 1 = cc in absurd (omega arith)
+ask_ok b e next h = grind arith
 
 pub then_ok : {X : Type 0} (a : Result (Unit {0}) Refusal) (answer : Result X Refusal) (x : X) → then a answer ≡ Ok x → (a ≡ Ok tt) × (answer ≡ Ok x)
-then_ok (Ok u) answer x h = (refl, h)
-then_ok (Err e) answer x h = let z : ◌≡◌ {A = ℕ} 0 1 = cc in absurd (omega arith)
+then_ok a answer x h = grind arith
 
 left_cases : (r : Result (Unit {0}) Refusal) (a s : State) (P : State → Type 0) → P s → (r ≡ Ok tt → P a) → P (left r a s)
 left_cases (Ok u) a s P p h = h refl
 left_cases (Err e) a s P p h = p
 
-pub none_tells : (f : ℕ → Bool) (n : ℕ) → none_to f n ≡ true → (i : ℕ) → i < n → f i ≡ false
-none_tells f zero h i l = absurd (omega arith)
-none_tells f (suc n) h i l =
-    let p = and_parts (none_to f n) (not (f n)) h in
-    ⊎_elim (λ (e : i ≡ n). subst (λ k. f k ≡ false) (sym e) (not-true (f n) p.1)) (λ ne. none_tells f n p.0 i (omega arith)) (cases_eq i n)
-
-pub none_from : (f : ℕ → Bool) (n : ℕ) → ((i : ℕ) → i < n → f i ≡ false) → none_to f n ≡ true
-none_from f zero h = refl
-none_from f (suc n) h = and_from (none_to f n) (not (f n)) (none_from f n (λ i l. h i (omega arith))) (not_from_false (f n) (h n (omega arith)))
+pub none_decides : (f : ℕ → Bool) (n : ℕ) → Decides (none_to f n) ((i : ℕ) → i < n → f i ≡ false)
+none_decides f n = Decides-below_and (λ k. not (f k)) (λ k. f k ≡ false) (none_to f) (λ k. (not-true (f k), not_from_false (f k))) refl (λ k. and_comm (none_to f k) (not (f k))) n
 
 pub quiet_is : (b : Became) → not (is_quiet b) ≡ false → b ≡ Quiet
-quiet_is Raised h = absurd (both_ways true h refl)
-quiet_is Quiet h = refl
-quiet_is (Broke c) h = absurd (both_ways true h refl)
+quiet_is b h = grind arith
 
 pub sound_push : (xs : List Item) (x : Item) → Sound xs → length xs < 64 → Valid x → Sound (xs ++ (x ∷ []))
 sound_push xs x s l v =
     record {
       few = omega (arith, length_push xs x);
-      valid = λ i il. let n = length_push xs x in
-          ⊎_elim (λ (h : i < length xs). subst Valid (sym (get_or_append_left xs (x ∷ []) no_item i h)) (s.valid i h))
-          (λ (h : length xs ≤ i). subst Valid (sym (get_or_push xs x no_item i (omega arith))) v) (cases_lt i (length xs));
+      valid = λ i il. grind (arith, elements, s.valid);
     }
 
 pub sound_set : (xs : List Item) (x : Item) (j : ℕ) → Sound xs → j < length xs → Valid x → Sound (set xs j x)
 sound_set xs x j s l v =
     record {
       few = omega (arith, length-set xs j x, s.few);
-      valid = λ i il. let h : i < length xs = omega (arith, length-set xs j x) in
-          ⊎_elim (λ (e : i ≡ j). subst Valid (sym (ap (λ k. get_or (set xs j x) k no_item) e ∙ get_or-set_same xs j x no_item l)) v)
-          (λ (ne : i ≡ j → ⊥). subst Valid (sym (get_or-set_other xs j i x no_item ne)) (s.valid i h)) (cases_eq i j);
+      valid = λ i il. grind (arith, elements, s.valid);
     }
 
 whole_fresh : (wait : Reckoning) (xs : List Item) (arcs : List Arc) → Sound xs → Whole wait (fresh xs arcs)
-whole_fresh wait xs arcs s = record { inv = inv_start wait xs arcs s; none = λ h. absurd (both_ways false refl h) }
+whole_fresh wait xs arcs s = record { inv = inv_start wait xs arcs s; none = λ h. absurd cc }
 
 module _ (wait : Reckoning) (mono : Monotone wait) (s : State) (w : Whole wait s) where
   tell : (i : ℕ) → Told (item_at s i) (times_at s i) (found wait s i) (outcome wait s i)
@@ -88,11 +77,7 @@ module _ (wait : Reckoning) (mono : Monotone wait) (s : State) (w : Whole wait s
   -- no time of the sheet after a step exceeds a lawful set of the sheet before it
   pub step_low : (i : ℕ) → i < length s.items → (us : List Times) → Lawful wait s.items s.arcs us → Below (stepped wait s i).times us
   step_low i il us h =
-      let Q : Became → Type 0 = Told (item_at s i) (times_at s i) (found wait s i) in
-      by_cases (outcome wait s i) _ _ _ (λ (u : State). Below u.times us)
-      (λ o. (inv_step wait mono s.items s.arcs s.times w.inv i il (subst Q o (tell i)).0).low us h)
-      (λ o. (inv_step wait mono s.items s.arcs s.times w.inv i il (subst Q o (tell i)).0).low us h)
-      (λ c o. w.inv.low us h)
+      (whole_step i il).inv.low us (by_cases (outcome wait s i) _ _ _ (λ (u : State). Lawful wait u.items u.arcs us) (λ _. h) (λ _. h) (λ c _. h))
 
   pub run_is_well : s.broken ≡ false → (a : ℕ) → RanWell wait s.items s.arcs (0 + a) (a + 0) (bound s.items s.times) (run_of wait s a)
   run_is_well unb a =
@@ -104,8 +89,8 @@ module _ (wait : Reckoning) (mono : Monotone wait) (s : State) (w : Whole wait s
       let x : Ran = run_of wait s a in
       let h : RanWell wait s.items s.arcs (0 + a) (a + 0) (bound s.items s.times) x = run_is_well unb a in
       record {
-        inv = subst (λ (xs : List Item). Inv wait xs x.state.arcs x.state.times) (sym h.items) (subst (λ (ar : List Arc). Inv wait s.items ar x.state.times) (sym h.arcs_same) h.inv);
-        none = λ b. subst (λ (xs : List Item). (us : List Times) → Lawful wait xs x.state.arcs us → ⊥) (sym h.items) (subst (λ (ar : List Arc). (us : List Times) → Lawful wait s.items ar us → ⊥) (sym h.arcs_same) (h.none b));
+        inv = rw (h.items, h.arcs_same) h.inv;
+        none = λ b us law. h.none b us (lawful_of us h.items h.arcs_same law);
       }
 
 pub after_whole : (m : Meaning) → Monotone m.wait → (s : State) → Whole m.wait s → (c : Call) → Made c → Whole m.wait (after m s c)

@@ -42,6 +42,7 @@ impl Refusal {
     pub fn number(self) -> u8
         ensures { result ≡ number_of self }
     {
+        // Cast: the discriminant is the number.
         self as u8
     }
 }

@@ -1,4 +1,4 @@
-ghost use Rattle.std.specs.Prelude.{◌≡◌, ◌+◌, ◌≤◌, length, IfSome};
+ghost use Rattle.std.specs.Prelude.{◌≡◌, ◌+◌, ◌≤◌, length, drop, IfSome};
 ghost use Rattle.records.specs.Bytes.{four, cut_of, seen};
 
 /// A record as it lies in its file: kind and body.
@@ -23,6 +23,13 @@ pub fn cut<'a>(bytes: &'a [u8]) -> Option<Raw<'a>>
         kind: u16::from_le_bytes([*k0, *k1]),
         body,
     })
+}
+
+/// The bytes from `place` on.
+pub fn from_place<'a>(bytes: &'a [u8], place: usize) -> &'a [u8]
+    ensures { result.now ≡ drop place bytes.now }
+{
+    bytes.get(place..).unwrap_or(&[])
 }
 
 /// The four bytes from `at` on, the low one first.

@@ -45,6 +45,7 @@ pub struct Fault {
 
 impl SourceFile {
     /// Its name in print.
+    // As a text: callers have it without a formatter, and `Display` writes it.
     pub fn name(self) -> &'static str
         ensures { result.now ≡ name_of self }
     {
@@ -73,6 +74,7 @@ impl From<outcome::Refusal> for Refusal {
 
 impl Refusal {
     /// The number of the question.
+    // By cases: a variant that holds a value has no discriminant.
     pub fn number(self) -> u8
         ensures { result ≡ number_of self }
     {

@@ -37,6 +37,7 @@ fn text<'a>(bytes: &'a [u8]) -> Result<&'a str, Refusal>
 pub(crate) fn read_item<'a>(body: &'a [u8]) -> Result<ItemRecord<'a>, Refusal>
     ensures { item_as result ≡ item_of body.now }
 {
+    // Asked before the parts are read; there is no error to hand on.
     if body.len() < 27 || body.len() > 42 {
         return Err(Refusal::WrongLength);
     }

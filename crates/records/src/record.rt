@@ -95,9 +95,7 @@ pub fn first_record<'a>(file: SourceFile, bytes: &'a [u8]) -> Result<(Record<'a>
     ensures value { record_as result ≡ record_of file bytes.now }
     ensures within { IfOk result (λ p. (0 < p.1) × (p.1 ≤ length bytes.now)) }
 {
-    let Some(raw) = cut(bytes) else {
-        return Err(Refusal::NotWhole);
-    };
+    let raw = cut(bytes).ok_or(Refusal::NotWhole)?;
     let record = read(file, raw.kind, raw.body)?;
     Ok((record, 4 + raw.body.len()))
 }

@@ -1,12 +1,14 @@
-ghost use Rattle.std.specs.Prelude.{◌≡◌, drop};
+ghost use Rattle.std.specs.Prelude.{◌≡◌};
 ghost use Rattle.std.specs.Iterator.{YieldsFirstBy, item_count};
 ghost use Rattle.records.specs.Rows.{row_as, rows_in, rows_left};
 
+use crate::bytes::from_place;
 use crate::fault::{Fault, SourceFile};
 use crate::record::{Record, first_record};
 
 /// A record with its place: the byte offset of its length in the file.
 #[derive(Clone, Copy)]
+// Not the row of a page: one name, two things.
 pub struct Row<'a> {
     pub record: Record<'a>,
     pub place: usize,
@@ -31,13 +33,6 @@ impl<'a> Rows<'a> {
             place: 0,
         }
     }
-
-    /// The bytes that no record has been read from.
-    fn rest(&self) -> &'a [u8]
-        ensures { result.now ≡ drop self.now.place self.now.bytes.now }
-    {
-        self.bytes.get(self.place..).unwrap_or(&[])
-    }
 }
 
 impl<'a> Iterator for Rows<'a> {
@@ -49,7 +44,7 @@ impl<'a> Iterator for Rows<'a> {
 
     fn next(&mut self) -> Option<Result<Row<'a>, Fault>> {
         let place = self.place;
-        let rest = self.rest();
+        let rest = from_place(self.bytes, self.place);
         if rest.is_empty() {
             return None;
         }

@@ -33,6 +33,7 @@ pub(crate) fn read_station(body: &[u8]) -> Result<StationRecord, Refusal>
     ensures { result ≡ station_of body.now }
 {
     let [class, station, f0, f1, f2, f3, s0, s1, s2, s3, t0, t1] = body else {
+        // Made here: there is no error to hand on.
         return Err(Refusal::WrongLength);
     };
     let first = u32::from_le_bytes([*f0, *f1, *f2, *f3]);

@@ -33,6 +33,7 @@ fn lines<R: Rule>(sheet: &Sheet<R>) -> [Line; 64]
     requires settled { IsSettled (meaning R.Rule sheet.now.rule) sheet.now.table }
     ensures { (i : ℕ) → i < length sheet.now.table.items → slice_index_or result i no_line ≡ line_at sheet.now.table i }
 {
+    // An array: `times` writes into its caller's table, and nothing is allocated.
     let mut lines = [Line::default(); 64];
     sheet.times(&mut lines).unwrap();
     lines
@@ -45,6 +46,7 @@ fn rows<'a, R: Rule>(sheet: &Sheet<R>, process: &'a [u8]) -> Rows<'a>
 {
     let lines = lines(sheet);
     let names = names(process);
+    // A loop: `collect` into a vector of fixed room answers a result, and this cannot fail.
     let mut rows = ArrayVec::new();
     for (line, name) in lines[..sheet.count()].iter().zip(&names) {
         rows.push(Row::new(name, *line, limit(sheet, line.number)));

@@ -24,6 +24,7 @@ fn floor(amount: u64, divisor: u32) -> u64
 pub(crate) fn cap(wait: u64) -> u32
     ensures { result ≡ capped wait }
 {
+    // Cast: the number is small by now, and `try_from` would add an error that never comes.
     wait.min(1_000_001) as u32
 }
 
@@ -38,10 +39,11 @@ fn is_stronger(mine: &Item, other: &Item) -> bool
 fn is_weaker(mine: &Item, other: &Item) -> bool
     ensures { result ≡ is_weaker mine.now other.now }
 {
-    mine.shares_station(other) && mine.priority < other.priority
+    is_stronger(other, mine)
 }
 
 /// How often a message arrives while mine waits: at the start, and after each whole period.
+// Two parameters: a pair of them would be no more than the two.
 pub(crate) fn arrivals(mine: Timed<'_>, other: Timed<'_>) -> u64
     ensures value { result ≡ arrivals_of mine.entry.times.now other.entry.item.now other.entry.times.now }
     ensures few { result ≤ 2000001 }
@@ -67,6 +69,7 @@ pub(crate) fn over_stronger<C: Contribution>(asked: Asked<'_>) -> u64
 {
     let mine = asked.mine();
     let mut sum: u64 = 0;
+    // A loop: each part is bounded by its item, whose number `enumerate` counts.
     for (j, item) in asked.items.iter().enumerate() {
         if is_stronger(mine.item, item) {
             let times = &asked.times[j];
@@ -83,6 +86,7 @@ fn largest_of_weaker<F: Fn(&Item) -> u32>(asked: Asked<'_>, figure: &F) -> u32
 {
     let mine = asked.mine().item;
     let mut largest: u32 = 0;
+    // A loop as short as a chain, and told by the definition's own recursion.
     for other in asked.items {
         if is_weaker(mine, other) {
             largest = largest.max(figure(other));

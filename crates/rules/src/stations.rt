@@ -4,6 +4,7 @@ ghost use Rattle.rules.specs.Stations.{station_at, is_free};
 /// The stations that one class has in a cell, by number, each with its figures.
 #[derive(Drop)]
 pub struct Stations<T> {
+    // An array: a station's number is its index.
     figures: [Option<T>; 8],
 }
 
@@ -23,6 +24,7 @@ impl<T: Copy> Stations<T> {
     }
 
     /// Adds a station, if its number is 0 to 7 and new here. Otherwise all stays as it was.
+    // A `bool`, as `insert` of a set answers: there is nothing to tell beside.
     pub fn add(&mut self, station: u8, figures: T) -> bool
         ensures answer { result ≡ is_free self.old.figures station }
         ensures left { self.new.figures ≡ (if result then slice_set self.old.figures station (Some figures) else self.old.figures) }

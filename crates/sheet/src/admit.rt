@@ -22,6 +22,7 @@ fn rivals(item: &Item, other: &Item) -> bool
 fn is_unused(items: &[Item], number: usize, item: &Item) -> bool
     ensures { result ≡ is_unused items.now number item.now }
 {
+    // A loop: of `any` behind `enumerate` the proof learns too little.
     for (j, other) in items.iter().enumerate() {
         if j != number && rivals(item, other) {
             return false;
@@ -30,6 +31,7 @@ fn is_unused(items: &[Item], number: usize, item: &Item) -> bool
     true
 }
 
+// Numbers and no `Arc`, here and in `arc`: they need not be those of items.
 fn is_new_arc(arcs: &[Arc], from: usize, to: usize) -> bool
     ensures { result ≡ is_new_arc arcs.now from to }
 {

@@ -4,6 +4,7 @@ ghost use Rattle.promise.specs.State.{meaning, item_at};
 ghost use Rattle.promise.specs.Steps.{outcome, is_quiet};
 ghost use Rattle.promise.specs.Calls.{Call, Rows, no_line, all_quiet, settled_ask, times_answer, line_at, larger as larger_of, bound_to, bound_answer};
 ghost use Rattle.promise.specs.Promise.{Leaves, enough as enough_of};
+ghost use Rattle.sheet.specs.Tables.{Fit};
 
 use crate::ask::ask;
 use crate::sheet::Sheet;
@@ -70,6 +71,7 @@ impl<R: Rule> Sheet<R> {
         ensures { result ≡ bound_to (is_there queue.class queue.station queue.queue) (R.Rule.load self.now.rule self.now.table.items self.now.table.times) self.now.table.items (length self.now.table.items) }
     {
         let mut bound = None;
+        // A loop: the number that `enumerate` counts is what the rule is asked about.
         for (i, item) in self.table.items().iter().enumerate() {
             if queue.takes(item) {
                 bound = larger(bound, self.rule.load(self.table.ask(i)), i);
@@ -113,7 +115,8 @@ impl<R: Rule> Sheet<R> {
 
     /// How many items the sheet has.
     pub fn count(&self) -> usize
-        ensures { result ≡ length self.now.table.items }
+        ensures value { result ≡ length self.now.table.items }
+        ensures fit { Fit self.now.table }
     {
         self.table.items().len()
     }
@@ -130,6 +133,7 @@ impl<R: Rule> Sheet<R> {
     pub fn enough(&self) -> u64
         ensures { result ≡ enough_of self.now.table }
     {
+        // Cast: a `usize` has no `From` into a `u64`.
         (self.table.room() + 1) * self.table.items().len() as u64
     }
 }

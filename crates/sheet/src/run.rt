@@ -34,8 +34,8 @@ impl<R: Rule> Sheet<R> {
         ensures rule { self.new.rule ≡ self.old.rule }
     {
         let n = self.count();
-        // Counted by hand: a step that raises a time begins the row of quiet ones again, so neither is a
-        // count of turns.
+        // Not counts of the turns: a step that raises a time begins the row of quiet ones again. The item
+        // goes round by hand, as a `cycle` over no items gives no turn at all.
         let mut item: usize = 0;
         let mut quiet: usize = 0;
         let mut raises: u64 = 0;

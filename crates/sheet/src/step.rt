@@ -67,6 +67,7 @@ impl<R: Rule> Sheet<R> {
     }
 
     /// A step on item `i`, with no question put.
+    // That the rule stays is said of each call: a type cannot speak of before and after.
     pub(crate) fn turn(&mut self, i: usize) -> Became
         requires { i < length self.old.table.items }
         ensures answer { result ≡ outcome (R.Rule.wait self.old.rule) self.old.table i }

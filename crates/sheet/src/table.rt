@@ -5,6 +5,7 @@ ghost use Rattle.promise.specs.State.{empty, fresh, item_at};
 ghost use Rattle.promise.specs.Calls.{joined};
 ghost use Rattle.promise.specs.Promise.{room};
 ghost use Rattle.promise.specs.Steps.{latest, written, broken_off};
+ghost use Rattle.sheet.specs.Tables.{Fit};
 
 use arrayvec::ArrayVec;
 use model::arc::Arc;
@@ -14,11 +15,14 @@ use model::times::Times;
 use std::marker::Model;
 
 /// What a sheet holds beside its rule; in a clause, the state that the calls speak of.
+// Not the table of the rules: one name, two things.
 #[derive(Drop)]
 pub struct Table {
     items: ArrayVec<Item, 64>,
     arcs: ArrayVec<Arc, 128>,
+    // Beside the items: a set of times is a list of its own.
     times: ArrayVec<Times, 64>,
+    // A flag: the fourth part of the state, beside no value of its own.
     broken: bool,
 }
 
@@ -41,7 +45,8 @@ fn slack(item: &Item) -> u32
     item.deadline.saturating_sub(item.duration)
 }
 
-// Each method asks for `i` inside: a type for such numbers could not say inside which table.
+// Each method asks for `i` inside: a type for such numbers could say inside which table only by
+// borrowing from it, and some methods change it.
 impl Table {
     /// A table with nothing in it.
     pub(crate) fn empty() -> Table
@@ -57,7 +62,7 @@ impl Table {
 
     pub(crate) fn items(&self) -> &[Item]
         ensures value { result.now ≡ self.now.items }
-        ensures few { length result.now ≤ 64 }
+        ensures fit { Fit self.now }
     {
         self.items.as_slice()
     }
@@ -181,6 +186,7 @@ impl Table {
         ensures small { result ≤ 3000000 }
     {
         let mut late = self.ask(i).mine().item.offset;
+        // A loop and no `fold`: each end keeps its own bound, by the arc's start that is there.
         for arc in self.arcs.as_slice() {
             if usize::from(arc.to) == i {
                 late = late.max(self.end(usize::from(arc.from)));

@@ -13,6 +13,7 @@ use std::{fs, io};
 // Kept in both programs: no contract says what a file holds, so a function that they shared could promise nothing.
 /// What the file holds, and nothing where there is none.
 fn read_or_empty(rt: &HostRuntime, path: &str) -> io::Result<Vec<u8>> {
+    // By cases: one error becomes an empty file, and another is told first.
     match fs::read(rt, path) {
         Ok(bytes) => Ok(bytes),
         Err(error) if error.kind() == io::ErrorKind::NotFound => Ok(Vec::new(rt.alloc())),
@@ -26,6 +27,7 @@ fn read_or_empty(rt: &HostRuntime, path: &str) -> io::Result<Vec<u8>> {
 /// Prints what the two files hold, or the first fault; one in the cell file goes first.
 fn tell(rt: &HostRuntime, cell: &[u8], process: &[u8]) -> io::Result<()> {
     let (bank, made) = make_bank(cell);
+    // Printed and not handed on: a fault is what the program has to say.
     if let Err(fault) = made {
         return println!(rt; "{fault}");
     }

@@ -9,6 +9,7 @@ use std::{fs, io};
 // Kept in both programs: no contract says what a file holds, so a function that they shared could promise nothing.
 /// What the file holds, and nothing where there is none.
 fn read_or_empty(rt: &HostRuntime, path: &str) -> io::Result<Vec<u8>> {
+    // By cases: one error becomes an empty file, and another is told first.
     match fs::read(rt, path) {
         Ok(bytes) => Ok(bytes),
         Err(error) if error.kind() == io::ErrorKind::NotFound => Ok(Vec::new(rt.alloc())),
@@ -22,6 +23,7 @@ fn read_or_empty(rt: &HostRuntime, path: &str) -> io::Result<Vec<u8>> {
 /// Prints the page that two files come to.
 fn print_page(rt: &HostRuntime, cell: &[u8], process: &[u8]) -> io::Result<()> {
     let report = tell(cell, process);
+    // Told before it is handed on.
     if let Err(error) = println!(rt; "{report}") {
         eprintln!(rt; "timing: the page cannot be printed: {error}")?;
         return Err(error);

@@ -7,6 +7,7 @@ impl Trials {
     fn try_cuts(&mut self, files: Files<'_>, source: Source) -> Result<(), AllocError> {
         let whole = files.of(source);
         for length in 0..whole.len() {
+            // Kept as a cast: no `From` leads from usize to u64.
             self.compare(length as u64, files.with(source, &whole[..length]))?;
         }
         Ok(())
@@ -24,12 +25,14 @@ impl Trials {
             if let Some(byte) = bytes.get_mut(place) {
                 *byte = byte.wrapping_add(1);
             }
+            // Kept as a cast, as above.
             self.compare(place as u64, files.with(source, bytes.as_slice()))?;
         }
         Ok(())
     }
 
     fn try_bytes(&mut self, files: Files<'_>, source: Source) -> Result<(), AllocError> {
+        // Kept as an index: what is damaged is the byte at this place, in a copy of the file.
         for place in 0..files.of(source).len() {
             self.try_values(files, source, place)?;
         }

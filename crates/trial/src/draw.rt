@@ -57,6 +57,7 @@ impl Style {
 /// A station whose figures leave room within the period.
 fn draw_station(seed: &mut Seed, class: Class, number: u8, period: u32) -> Station {
     let bare = Station {
+        // Kept as a cast: the number of a class is its discriminant.
         class: class as u8,
         number,
         ..Station::default()
@@ -71,7 +72,7 @@ fn draw_station(seed: &mut Seed, class: Class, number: u8, period: u32) -> Stati
             Station {
                 first: round,
                 second: seed.number(1, round),
-                third: seed.number(1, 240).min(seed.number(1, 240)),
+                third: u16::from(seed.byte(1, 240).min(seed.byte(1, 240))),
                 ..bare
             }
         }
@@ -96,6 +97,8 @@ fn draw_class(
 }
 
 fn draw_name(seed: &mut Seed) -> Name {
+    // Kept as 16 letters with a length: all are drawn, however short the name is, so that what is
+    // drawn next stays the same.
     let mut letters = [b' '; 16];
     for slot in letters.iter_mut() {
         *slot = seed.one_of(b"abcdefghijklmnopqrstuvwxyz0123456789-");

@@ -33,24 +33,24 @@ impl Encoded {
         }
     }
 
-    fn pair(&mut self, number: u32) -> Result<(), AllocError> {
-        let [low, high, _, _] = number.to_le_bytes();
-        self.bytes.extend_from_slice(&[low, high])
+    fn pair(&mut self, number: u16) -> Result<(), AllocError> {
+        self.bytes.extend_from_slice(&number.to_le_bytes())
     }
 
     fn word(&mut self, number: u32) -> Result<(), AllocError> {
         self.bytes.extend_from_slice(&number.to_le_bytes())
     }
 
-    fn head(&mut self, length: u32, kind: Kind) -> Result<(), AllocError> {
+    fn head(&mut self, length: u16, kind: Kind) -> Result<(), AllocError> {
         self.places.push(self.bytes.len())?;
         self.pair(length)?;
-        self.pair(kind as u32)
+        // Kept as a cast: the number of a kind is its discriminant.
+        self.pair(kind as u16)
     }
 
     fn activity(&mut self, activity: &Activity) -> Result<(), AllocError> {
         let name = activity.name.as_str().as_bytes();
-        let length = u32::try_from(name.len()).unwrap_or(1);
+        let length = u16::try_from(name.len()).unwrap_or(1);
         self.head(length.saturating_add(26), Kind::Activity)?;
         self.bytes.extend_from_slice(&[
             activity.class,

@@ -1,6 +1,6 @@
 //! The reckoner's own page of a verdict.
 use crate::machine::Machine;
-use crate::verdict::{Ending, Line, Ran, Verdict};
+use crate::verdict::{Ending, Line, Verdict};
 use std::fmt;
 
 /// What the tool should print of a pair of files.
@@ -27,9 +27,13 @@ impl Page<'_> {
         Ok(())
     }
 
-    fn write_ending<W: fmt::Write>(&self, f: &mut fmt::Formatter<W>, ran: Ran) -> fmt::Result {
-        let steps = ran.steps;
-        match ran.ending {
+    fn write_ending<W: fmt::Write>(
+        &self,
+        f: &mut fmt::Formatter<W>,
+        ending: Ending,
+        steps: u64,
+    ) -> fmt::Result {
+        match ending {
             Ending::Settled => write!(f, "settled {steps}"),
             Ending::Spent => write!(f, "spent {steps}"),
             Ending::Broken(item, cause) => {
@@ -51,12 +55,11 @@ impl fmt::Display for Page<'_> {
                 let number = fault.question;
                 write!(f, "fault {file} {place} {number}")
             }
-            Verdict::Ended(ran, lines, _) => {
-                if ran.ending == Ending::Settled {
-                    self.write_lines(f, lines.as_slice())?;
-                }
-                self.write_ending(f, *ran)
+            Verdict::Settled { steps, lines, .. } => {
+                self.write_lines(f, lines.as_slice())?;
+                self.write_ending(f, Ending::Settled, *steps)
             }
+            Verdict::Stopped(ran) => self.write_ending(f, ran.ending, ran.steps),
         }
     }
 }

@@ -1,4 +1,5 @@
 //! What a machine is to the reckoner: plain records, in the order of the files.
+use crate::question::Question;
 use arrayvec::ArrayString;
 use std::alloc::{AllocError, Global};
 
@@ -16,15 +17,23 @@ pub enum Class {
 
 impl Class {
     pub const ALL: [Class; 4] = [Class::Table, Class::Processor, Class::Bus, Class::Gateway];
+}
 
-    /// The class that has this number, if one has it.
-    pub fn numbered(number: u8) -> Option<Class> {
+/// A number that no class has.
+// It stands for no function: an error with nothing to tell.
+#[derive(Clone, Copy)]
+pub struct UnknownClass;
+
+impl TryFrom<u8> for Class {
+    type Error = UnknownClass;
+
+    fn try_from(number: u8) -> Result<Class, UnknownClass> {
         match number {
-            1 => Some(Class::Table),
-            2 => Some(Class::Processor),
-            3 => Some(Class::Bus),
-            4 => Some(Class::Gateway),
-            _ => None,
+            1 => Ok(Class::Table),
+            2 => Ok(Class::Processor),
+            3 => Ok(Class::Bus),
+            4 => Ok(Class::Gateway),
+            _ => Err(UnknownClass),
         }
     }
 }
@@ -37,14 +46,15 @@ pub enum Kind {
     Link,
 }
 
-impl Kind {
-    /// The kind that has this number, if one has it.
-    pub fn numbered(number: u32) -> Option<Kind> {
+impl TryFrom<u16> for Kind {
+    type Error = Question;
+
+    fn try_from(number: u16) -> Result<Kind, Question> {
         match number {
-            1 => Some(Kind::Station),
-            2 => Some(Kind::Activity),
-            3 => Some(Kind::Link),
-            _ => None,
+            1 => Ok(Kind::Station),
+            2 => Ok(Kind::Activity),
+            3 => Ok(Kind::Link),
+            _ => Err(Question::Kind),
         }
     }
 }
@@ -57,7 +67,7 @@ pub struct Station {
     pub number: u8,
     pub first: u32,
     pub second: u32,
-    pub third: u32,
+    pub third: u16,
 }
 
 /// What the process file says of an item.
@@ -103,6 +113,7 @@ pub enum Record {
     Link(Link),
 }
 
+// Kept apart from the heap that many calls take beside it: that is for what they make, not for it.
 #[derive(Drop)]
 pub struct Machine {
     pub stations: Vec<Station>,
@@ -150,7 +161,7 @@ impl Station {
 
 impl Activity {
     pub fn kind(&self) -> Option<Class> {
-        Class::numbered(self.class)
+        Class::try_from(self.class).ok()
     }
 
     pub fn outlet(&self) -> Outlet {
@@ -162,6 +173,7 @@ impl Activity {
     }
 
     /// Do the two compete for one station?
+    // Kept by hand: a derived equality would ask about all fields, and this asks about two.
     pub fn meets(&self, other: &Activity) -> bool {
         self.class == other.class && self.station == other.station
     }

@@ -18,6 +18,8 @@ pub struct Trials {
     pub tally: Tally,
 }
 
+// Kept as an enum that three methods match: a harm is data, which the style, the machine and the
+// files are each asked about in turn.
 /// What is done to a machine or its files before they are tried.
 #[derive(Clone, Copy)]
 enum Harm {

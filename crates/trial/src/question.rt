@@ -4,6 +4,8 @@ use std::fmt;
 /// What was answered with no, in the order of the numbers, which begin at 0.
 #[derive(Clone, Copy, PartialEq, Eq, PartialOrd, Ord)]
 pub enum Question {
+    // Kept as a case: with an error here each verdict and answer would hold a Result, though only
+    // the tool's side can tell such a number, and the reckoner's never equals it.
     /// The tool told a number that none of the questions has.
     Unknown,
     FileSize,
@@ -61,6 +63,7 @@ impl From<u8> for Question {
 /// The number of the question.
 impl fmt::Display for Question {
     fn fmt<W: fmt::Write>(&self, f: &mut fmt::Formatter<W>) -> fmt::Result {
+        // Kept as a cast: the number of a question is its discriminant.
         let number = *self as u8;
         write!(f, "{number}")
     }

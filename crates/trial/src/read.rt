@@ -12,7 +12,7 @@ const MOST_BYTES: usize = 16384;
 #[derive(Clone, Copy)]
 struct Row<'a> {
     place: usize,
-    kind: Option<Kind>,
+    kind: Result<Kind, Question>,
     body: &'a [u8],
 }
 
@@ -42,47 +42,61 @@ impl From<AllocError> for Stop {
     }
 }
 
-fn byte_at(bytes: &[u8], place: usize) -> u8 {
-    bytes.get(place).copied().unwrap_or(0)
+/// What is left of some bytes that are read field by field.
+#[derive(Clone, Copy)]
+struct Fields<'a> {
+    rest: &'a [u8],
 }
 
-fn pair_at(bytes: &[u8], place: usize) -> u32 {
-    let low = u32::from(byte_at(bytes, place));
-    let high = u32::from(byte_at(bytes, place.saturating_add(1)));
-    high.saturating_mul(256).saturating_add(low)
-}
+impl Fields<'_> {
+    /// The next bytes, or zeros where fewer are left.
+    fn next<const N: usize>(&mut self) -> [u8; N] {
+        let Some((field, rest)) = self.rest.split_first_chunk::<N>() else {
+            return [0; N];
+        };
+        self.rest = rest;
+        *field
+    }
 
-fn word_at(bytes: &[u8], place: usize) -> u32 {
-    let low = pair_at(bytes, place);
-    let high = pair_at(bytes, place.saturating_add(2));
-    high.saturating_mul(65536).saturating_add(low)
+    fn byte(&mut self) -> u8 {
+        u8::from_le_bytes(self.next())
+    }
+
+    fn pair(&mut self) -> u16 {
+        u16::from_le_bytes(self.next())
+    }
+
+    fn word(&mut self) -> u32 {
+        u32::from_le_bytes(self.next())
+    }
 }
 
 fn find_rows<'a>(heap: Global, bytes: &'a [u8]) -> Result<Rows<'a>, AllocError> {
     let mut rows = Vec::new(heap);
+    let place_of = |rest: &[u8]| bytes.len().saturating_sub(rest.len());
     let mut rest = bytes;
-    let mut place: usize = 0;
-    while let Some((head, tail)) = rest.split_at_checked(4) {
-        let length = pair_at(head, 0) as usize;
+    while let [l0, l1, k0, k1, tail @ ..] = rest {
+        let length = usize::from(u16::from_le_bytes([*l0, *l1]));
         let Some((body, next)) = tail.split_at_checked(length) else {
             break;
         };
-        let kind = Kind::numbered(pair_at(head, 2));
+        let kind = Kind::try_from(u16::from_le_bytes([*k0, *k1]));
+        let place = place_of(rest);
         rows.push(Row { place, kind, body })?;
-        place = place.saturating_add(4).saturating_add(length);
         rest = next;
     }
-    let torn = if rest.is_empty() { None } else { Some(place) };
+    let torn = (!rest.is_empty()).then_some(place_of(rest));
     Ok(Rows { rows, torn })
 }
 
 fn station_in(body: &[u8]) -> Station {
+    let mut fields = Fields { rest: body };
     Station {
-        class: byte_at(body, 0),
-        number: byte_at(body, 1),
-        first: word_at(body, 2),
-        second: word_at(body, 6),
-        third: pair_at(body, 10),
+        class: fields.byte(),
+        number: fields.byte(),
+        first: fields.word(),
+        second: fields.word(),
+        third: fields.pair(),
     }
 }
 
@@ -96,42 +110,44 @@ fn name_in(bytes: &[u8]) -> Result<Name, Question> {
 }
 
 fn activity_in(body: &[u8]) -> Result<Activity, Question> {
+    let mut fields = Fields { rest: body };
     Ok(Activity {
-        class: byte_at(body, 0),
-        station: byte_at(body, 1),
-        mark: byte_at(body, 2),
-        priority: byte_at(body, 3),
-        queue: byte_at(body, 4),
-        size: byte_at(body, 5),
-        period: word_at(body, 6),
-        duration: word_at(body, 10),
-        held: word_at(body, 14),
-        offset: word_at(body, 18),
-        deadline: word_at(body, 22),
-        name: name_in(body.get(26..).unwrap_or(&[]))?,
+        class: fields.byte(),
+        station: fields.byte(),
+        mark: fields.byte(),
+        priority: fields.byte(),
+        queue: fields.byte(),
+        size: fields.byte(),
+        period: fields.word(),
+        duration: fields.word(),
+        held: fields.word(),
+        offset: fields.word(),
+        deadline: fields.word(),
+        name: name_in(fields.rest)?,
     })
 }
 
 fn link_in(body: &[u8]) -> Link {
+    let mut fields = Fields { rest: body };
     Link {
-        from: usize::from(byte_at(body, 0)),
-        to: usize::from(byte_at(body, 1)),
+        from: usize::from(fields.byte()),
+        to: usize::from(fields.byte()),
     }
 }
 
 /// What a row of this file says.
 fn record_in(source: Source, row: Row<'_>) -> Result<Record, Question> {
     let length = row.body.len();
-    match (source, row.kind) {
-        (Source::Cell, Some(Kind::Station)) => {
+    match (source, row.kind?) {
+        (Source::Cell, Kind::Station) => {
             ask(length == 12, Question::Length)?;
             Ok(Record::Station(station_in(row.body)))
         }
-        (Source::Process, Some(Kind::Activity)) => {
+        (Source::Process, Kind::Activity) => {
             ask(length >= 27 && length <= 42, Question::Length)?;
             Ok(Record::Activity(activity_in(row.body)?))
         }
-        (Source::Process, Some(Kind::Link)) => {
+        (Source::Process, Kind::Link) => {
             ask(length == 2, Question::Length)?;
             Ok(Record::Link(link_in(row.body)))
         }
@@ -149,18 +165,13 @@ fn read_row(machine: &Machine, source: Source, row: Row<'_>) -> Result<Record, Q
 /// The part of the two files that a fault is about: the rest of the file where a record is not
 /// whole, nothing where the file is too long, otherwise the record.
 pub fn faulty_part(heap: Global, files: Files<'_>, fault: &Fault) -> Result<Vec<u8>, AllocError> {
-    let bytes = files.of(fault.source);
+    let rest = files.of(fault.source).get(fault.place..).unwrap_or(&[]);
     let length = match fault.question {
         Question::FileSize => 0,
-        Question::WholeRecord => bytes.len(),
-        _ => (pair_at(bytes, fault.place) as usize).saturating_add(4),
+        Question::WholeRecord => rest.len(),
+        _ => usize::from(Fields { rest }.pair()).saturating_add(4),
     };
-    bytes
-        .iter()
-        .skip(fault.place)
-        .take(length)
-        .copied()
-        .collect(heap)
+    rest.iter().take(length).copied().collect(heap)
 }
 
 /// Adds what one file says, up to its first fault.

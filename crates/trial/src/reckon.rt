@@ -4,7 +4,7 @@ use crate::read::{Stop, faulty_part, read_files};
 use crate::replay::Plan;
 use crate::rounds::least_times;
 use crate::source::Files;
-use crate::verdict::{Ending, Fault, Verdict};
+use crate::verdict::{Ending, Fault, Ran, Verdict};
 use std::alloc::{AllocError, Global};
 
 /// A pair of files, reckoned.
@@ -15,6 +15,7 @@ pub struct Reckoned {
     // Kept apart from the bounds: the tool is asked for the same queues, whatever the verdict is.
     /// Which queues were asked for, in the order of the verdict's bounds.
     pub outlets: Vec<Outlet>,
+    // Kept as a flag: what is compared is yes or no, and no value stands beside it.
     /// Do the whole rounds and the single steps agree?
     pub agrees: bool,
 }
@@ -23,6 +24,7 @@ pub struct Reckoned {
 fn outlets_of(heap: Global, machine: &Machine) -> Result<Vec<Outlet>, AllocError> {
     let mut outlets = Vec::new(heap);
     outlets.push(Outlet {
+        // Kept as a cast: the number of a class is its discriminant.
         class: Class::Bus as u8,
         station: 0,
         queue: 1,
@@ -45,24 +47,32 @@ pub fn rounds_agree(heap: Global, plan: &Plan) -> Result<bool, AllocError> {
     })
 }
 
+/// The verdict on a plan that has run so, with the bounds of these queues.
+fn judge(heap: Global, plan: &Plan, ran: Ran, outlets: &[Outlet]) -> Result<Verdict, AllocError> {
+    if ran.ending != Ending::Settled {
+        return Ok(Verdict::Stopped(ran));
+    }
+    let now = plan.now();
+    Ok(Verdict::Settled {
+        steps: ran.steps,
+        raises: ran.raises,
+        lines: plan.lines(heap)?,
+        bounds: outlets
+            .iter()
+            .map(|outlet| now.bound(*outlet))
+            .collect(heap)?,
+    })
+}
+
 fn run_out(heap: Global, machine: Machine) -> Result<Reckoned, AllocError> {
     let outlets = outlets_of(heap, &machine)?;
     let mut plan = Plan::new(heap, machine)?;
     let ran = plan.run(plan.enough());
+    let verdict = judge(heap, &plan, ran, outlets.as_slice())?;
     let agrees = rounds_agree(heap, &plan)?;
-    let mut lines = Vec::new(heap);
-    let mut bounds = Vec::new(heap);
-    if ran.ending == Ending::Settled {
-        lines = plan.lines(heap)?;
-        let now = plan.now();
-        bounds = outlets
-            .iter()
-            .map(|outlet| now.bound(*outlet))
-            .collect(heap)?;
-    }
     let Plan { machine, .. } = plan;
     Ok(Reckoned {
-        verdict: Verdict::Ended(ran, lines, bounds),
+        verdict,
         machine,
         outlets,
         agrees,

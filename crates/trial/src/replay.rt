@@ -9,6 +9,7 @@ pub struct Plan {
     pub machine: Machine,
     // Kept beside the activities: the rounds come to a whole list of times, to be compared with it.
     pub moments: Vec<Moment>,
+    // Kept as a flag: no call asks again what broke the plan, and the times stay as they were.
     pub broken: bool,
 }
 
@@ -80,9 +81,10 @@ impl Plan {
             steps: 0,
             raises: 0,
         };
+        // Kept as counts by hand, here and of the raises: they count what steps became, not turns.
         let mut quiet: usize = 0;
-        for (_, number) in (0..allowance).zip((0..count).cycle()) {
-            ran.steps = ran.steps.saturating_add(1);
+        for (step, number) in (1..=allowance).zip((0..count).cycle()) {
+            ran.steps = step;
             match self.step(number) {
                 Became::Raised => {
                     ran.raises = ran.raises.saturating_add(1);
@@ -119,6 +121,7 @@ impl Plan {
             .iter()
             .map(|own| own.deadline.saturating_sub(own.duration));
         let room = rooms.fold(1, |sum: u64, room| sum.saturating_add(u64::from(room)));
+        // Kept as a cast: no `From` leads from usize to u64.
         room.saturating_mul(activities.len() as u64)
     }
 

@@ -37,6 +37,7 @@ impl Seed {
     /// A number below `count`, or 0 where there is none.
     pub fn index(&mut self, count: usize) -> usize {
         let last = u32::try_from(count.saturating_sub(1)).unwrap_or(u32::MAX);
+        // Kept as a cast: no `From` leads from u32 to usize.
         self.number(0, last) as usize
     }
 

@@ -1,6 +1,7 @@
 //! Faults put into good machines and good files. Which question finds one is left to those who read
 //! the files: another fault, or none, may come of it.
 // Kept as numbers: each fault is a draw, and an enum would name what its one arm says.
+// Kept as two parameters, a seed and a machine: the same seed is drawn from before and after.
 use crate::encode::Encoded;
 use crate::machine::{Activity, Class, Link, Machine, Station};
 use crate::seed::Seed;
@@ -154,6 +155,7 @@ pub fn spoil_stations(seed: &mut Seed, machine: &mut Machine) -> Result<(), Allo
 
 /// Lengthens a file to about the most that one may have.
 fn swell(seed: &mut Seed, file: &mut Encoded) -> Result<(), AllocError> {
+    // Kept as a cast: no `From` leads from u32 to usize.
     let most = seed.number(16_383, 16_386) as usize;
     file.bytes.resize(most.max(file.bytes.len()), 0)
 }

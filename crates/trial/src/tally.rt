@@ -62,6 +62,7 @@ pub struct Tally {
     first: Vec<Difference>,
 }
 
+// Kept as counts by hand: they go over many calls, so no loop or iterator counts them.
 fn more(count: &mut u64) {
     *count = count.saturating_add(1);
 }
@@ -119,11 +120,13 @@ impl Tally {
         more(&mut self.pairs);
         match verdict {
             Verdict::Faulty(fault, _) => self.refusals.note(fault.question)?,
-            Verdict::Ended(ran, lines, bounds) => {
+            Verdict::Settled { lines, bounds, .. } => {
+                // Kept as casts: no `From` leads from usize to u64.
                 self.times = self.times.saturating_add(lines.len() as u64);
                 self.bounds = self.bounds.saturating_add(bounds.len() as u64);
-                self.note_ending(ran.ending);
+                self.note_ending(Ending::Settled);
             }
+            Verdict::Stopped(ran) => self.note_ending(ran.ending),
         }
         Ok(())
     }

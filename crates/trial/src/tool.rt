@@ -210,29 +210,45 @@ impl ToolSheet {
         self.sheet.enough()
     }
 
+    /// The times of all items, or none where the sheet refuses them.
+    fn lines(&self, heap: Global) -> Result<Vec<Line>, AllocError> {
+        match self.times(heap, self.sheet.count())? {
+            Answer::Told(lines) => Ok(lines),
+            _ => Ok(Vec::new(heap)),
+        }
+    }
+
+    /// The bounds of these queues, but for those that the sheet refuses.
+    fn bounds(&self, heap: Global, outlets: &[Outlet]) -> Result<Vec<Option<Bound>>, AllocError> {
+        outlets
+            .iter()
+            .filter_map(|outlet| match self.bound(*outlet) {
+                Answer::Bounded(found) => Some(found),
+                _ => None,
+            })
+            .collect(heap)
+    }
+
     /// What the sheet comes to, with the bounds of these queues.
     fn run_out(&mut self, heap: Global, outlets: &[Outlet]) -> Result<Verdict, AllocError> {
         let ran = match self.sheet.run(self.sheet.enough()) {
             Ok(ran) => Ran::from(ran),
+            // Kept as a run of no steps: the reckoner ends none so, and a refusal differs from all.
             Err(_) => Ran {
                 ending: Ending::Spent,
                 steps: 0,
                 raises: 0,
             },
         };
-        let mut lines = Vec::new(heap);
-        let mut bounds = Vec::new(heap);
-        if ran.ending == Ending::Settled {
-            if let Answer::Told(told) = self.times(heap, self.sheet.count())? {
-                lines = told;
-            }
-            for outlet in outlets {
-                if let Answer::Bounded(found) = self.bound(*outlet) {
-                    bounds.push(found)?;
-                }
-            }
+        if ran.ending != Ending::Settled {
+            return Ok(Verdict::Stopped(ran));
         }
-        Ok(Verdict::Ended(ran, lines, bounds))
+        Ok(Verdict::Settled {
+            steps: ran.steps,
+            raises: ran.raises,
+            lines: self.lines(heap)?,
+            bounds: self.bounds(heap, outlets)?,
+        })
     }
 }
 
@@ -291,12 +307,12 @@ pub fn exported_agrees(files: Files<'_>, verdict: &Verdict) -> bool {
     // Kept as numbers: the C interface tells the outcome as one.
     match verdict {
         Verdict::Faulty(_, _) => told.outcome == 2,
-        Verdict::Ended(ran, lines, _) if ran.ending == Ending::Settled => {
+        Verdict::Settled { steps, lines, .. } => {
             told.outcome == 0
-                && told.steps == ran.steps
+                && told.steps == *steps
                 && told.count == lines.len()
                 && same_times(&told.times, lines.as_slice())
         }
-        Verdict::Ended(ran, _, _) => told.outcome == 1 && told.steps == ran.steps,
+        Verdict::Stopped(ran) => told.outcome == 1 && told.steps == ran.steps,
     }
 }

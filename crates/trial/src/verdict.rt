@@ -69,7 +69,15 @@ pub struct Fault {
 pub enum Verdict {
     /// With the part of the file that the fault is about.
     Faulty(Fault, Vec<u8>),
-    Ended(Ran, Vec<Line>, Vec<Option<Bound>>),
+    /// With the times of all items, and the bounds of the queues that were asked for.
+    Settled {
+        steps: u64,
+        raises: u64,
+        lines: Vec<Line>,
+        bounds: Vec<Option<Bound>>,
+    },
+    /// Spent or broken.
+    Stopped(Ran),
 }
 
 /// What a call on a sheet answers.

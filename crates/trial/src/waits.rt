@@ -20,22 +20,14 @@ pub struct Reckoning<'a> {
     pub moments: &'a [Moment],
 }
 
-fn divided_up(amount: u64, by: u64) -> u64 {
-    let parts = amount / by.max(1);
-    if parts.saturating_mul(by) < amount {
-        parts.saturating_add(1)
-    } else {
-        parts
-    }
-}
-
 /// How many releases of `other` come before `own`, which waits `wait` ticks, has its turn.
 fn turns(own: &Activity, wait: u64, other: &Activity, late: u64) -> u64 {
     let jitter = late.saturating_sub(u64::from(other.offset));
     let span = wait.saturating_add(jitter);
     let period = u64::from(other.period).max(1);
     if own.kind() == Some(Class::Processor) {
-        divided_up(span.saturating_add(u64::from(own.duration)), period)
+        span.saturating_add(u64::from(own.duration))
+            .div_ceil(period)
     } else {
         (span / period).saturating_add(1)
     }
@@ -130,7 +122,8 @@ impl<'a> Reckoning<'a> {
                 };
                 let pressed = self.brought(own, wait, |other| u64::from(other.size));
                 let bytes = pressed.saturating_add(u64::from(own.size));
-                let rounds = divided_up(bytes, u64::from(gateway.third)).saturating_add(1);
+                let slots = bytes.div_ceil(u64::from(gateway.third).max(1));
+                let rounds = slots.saturating_add(1);
                 rounds.saturating_mul(u64::from(gateway.first))
             }
             Some(Class::Table) | None => 0,

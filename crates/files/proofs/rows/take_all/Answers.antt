@@ -1,6 +1,6 @@
 use Rattle.std.proofs.Common.{sym, ap, ◌∙◌, arith, rules}
 use Rattle.records.specs.Records.{said}
-use Rattle.files.proofs.Walks.{taken, taken_end, taken_fault, taken_row, taken_refused, rows_taken}
+use Rattle.files.proofs.Walks.{taken, taken_end, taken_fault, taken_row, taken_refused, rows_come}
 use Rattle.files.proofs.rows.take_all.Goals as goal
 
 pub loop-row-preserved : goal.loop-row-preserved
@@ -17,26 +17,17 @@ loop-row-preserved g c =
 pub returns-in_err-record-clause-view : goal.returns-in_err-record-clause-view
 returns-in_err-record-clause-view g c =
     let takes = g.I.Intake.takes (g.I.Intake.fixed c.args.intake.now) in
-    let file = c.args.file in
-    let s = g.I.Intake.view c.loop-row.intake in
     let step = rw c.in_err-record.was at c.in-Some.ensures.steps in
-    let here = ap (λ rows. taken takes file rows s) step ∙ taken_fault takes file c.in_err-record.field-0.0 _ s in
-    rw (rows_taken takes file c.args.bytes.now (g.I.Intake.view c.args.intake.now) (omega arith) ∙ (sym c.loop-row.invariant.1 ∙ here)) (search rules)
+    rw (rows_come takes c.args.file c.args.bytes.now (g.I.Intake.view c.args.intake.now) _ _ _ _ (omega arith) c.loop-row.invariant.1 step (taken_fault takes c.args.file c.in_err-record.field-0.0 _ _)) (search rules)
 
 pub returns-in-Err-clause-view : goal.returns-in-Err-clause-view
 returns-in-Err-clause-view g c =
     let takes = g.I.Intake.takes (g.I.Intake.fixed c.args.intake.now) in
-    let file = c.args.file in
-    let s = g.I.Intake.view c.loop-row.intake in
     let v = rw c.loop-row.invariant.0 at c.in-Err.ensures.view in
     let step = rw c.in_ok-record.was at c.in-Some.ensures.steps in
-    let here = ap (λ rows. taken takes file rows s) step ∙ taken_refused takes file (said c.in_ok-record.field-0.record) c.in_ok-record.field-0.place _ s c.in-Err.refusal v in
-    sym (rows_taken takes file c.args.bytes.now (g.I.Intake.view c.args.intake.now) (omega arith) ∙ (sym c.loop-row.invariant.1 ∙ here))
+    sym (rows_come takes c.args.file _ _ _ _ _ _ (omega arith) c.loop-row.invariant.1 step (taken_refused takes c.args.file (said c.in_ok-record.field-0.record) c.in_ok-record.field-0.place _ _ c.in-Err.refusal v))
 
 pub returns-clause-view : goal.returns-clause-view
 returns-clause-view g c =
     let takes = g.I.Intake.takes (g.I.Intake.fixed c.args.intake.now) in
-    let file = c.args.file in
-    let s = g.I.Intake.view c.loop-row.intake in
-    let here = ap (λ rows. taken takes file rows s) c.in-None.ensures.steps.0 ∙ taken_end takes file s in
-    sym (rows_taken takes file c.args.bytes.now (g.I.Intake.view c.args.intake.now) (omega arith) ∙ (sym c.loop-row.invariant.1 ∙ here))
+    sym (rows_come takes c.args.file _ _ _ _ _ _ (omega arith) c.loop-row.invariant.1 c.in-None.ensures.steps.0 (taken_end takes c.args.file _))

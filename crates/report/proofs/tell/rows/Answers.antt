@@ -17,7 +17,7 @@ loop-line-preserved g c =
     let k : ℕ = length c.loop-line.yielded in
     let no_name : Bor (List ℕ) = record { ref_ptr = (0, 0); now = [] } in
     let turn = zip_turn (take c.count.result c.lines-lines.result) c.names-names.result c.loop-line.yielded c.into_iter-line-iterator.result c.loop-line.line-iterator c.next.new.self c.next.result (search rules) (search rules) c.loop-line.yielded_by (c.in-Some.line, c.in-Some.name) c.in-Some.is c.next.ensures.steps in
-    let counted : c.count.result ≡ length t.items = c.count.ensures in
+    let counted : c.count.result ≡ length t.items = c.count.ensures.value in
     let within : k < length (take c.count.result c.lines-lines.result) = turn.0 in
     let below : k < length t.items = omega (arith, length-take c.count.result c.lines-lines.result) in
     let full : length c.names-names.result ≡ 64 = search rules in

@@ -10,4 +10,4 @@ returns g c =
     let sheet = c.args.self.now in
     let moves : ℕ → Bool = λ i. not (is_quiet (outcome (g.R.Rule.wait sheet.rule) sheet.table i)) in
     none_by_all moves (length sheet.table.items) _
-    (cases_from_all _ _ _ (λ i. moves i ≡ false) (λ i. moves i ≡ true) c.all.ensures.ran (YieldsList-from_range 0 _ _ refl (omega (arith, c.count.ensures))) (λ x q k. search (rules, tests)) (λ x q k. search (rules, tests)))
+    (cases_from_all _ _ _ (λ i. moves i ≡ false) (λ i. moves i ≡ true) c.all.ensures.ran (YieldsList-from_range 0 _ _ refl (omega (arith, c.count.ensures.value))) (λ x q k. search (rules, tests)) (λ x q k. search (rules, tests)))

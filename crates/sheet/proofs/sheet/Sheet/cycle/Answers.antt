@@ -14,7 +14,7 @@ loop-steps-init g c =
     let z : c.args.allowance - 0 ≡ c.args.allowance = omega arith in (
       ap (λ k. run_from (g.R.Rule.wait c.args.self.now.rule) k c.args.self.now.table 0 0 0 0) z,
       refl,
-      sym c.count-n.ensures,
+      sym c.count-n.ensures.value,
       (λ h. h),
       omega arith,
       omega arith,
