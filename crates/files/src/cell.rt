@@ -1,4 +1,5 @@
-ghost use Rattle.std.specs.Prelude.{◌≡◌};
+ghost use Rattle.std.specs.Prelude.{◌≡◌, ◌≤◌, IfErr};
+ghost use Rattle.records.specs.Faults.{number_of};
 ghost use Rattle.files.specs.declared.cell.Classes.{Classes};
 ghost use Rattle.files.specs.Cell.{no_stations, with_record, bank_of, cell_of, or_none};
 ghost use Rattle.files.specs.Rows.{answer_of};
@@ -88,6 +89,7 @@ impl Intake for Classes {
 pub fn make_bank(file: &[u8]) -> (AllClasses, Result<(), Fault>)
     ensures bank { result.0 ≡ or_none (cell_of file.now) }
     ensures answer { result.1 ≡ answer_of (cell_of file.now) }
+    ensures own { IfErr result.1 (λ fault. number_of fault.refusal ≤ 7) }
 {
     let mut classes = Classes::none();
     match take_all(&mut classes, SourceFile::Cell, file) {

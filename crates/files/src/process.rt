@@ -1,6 +1,7 @@
-ghost use Rattle.std.specs.Prelude.{◌≡◌, false, Ok};
+ghost use Rattle.std.specs.Prelude.{◌≡◌, ◌≤◌, false, Ok, IfErr};
 ghost use Rattle.promise.specs.State.{State, meaning};
 ghost use Rattle.promise.specs.Promise.{Promised};
+ghost use Rattle.records.specs.Faults.{number_of};
 ghost use Rattle.files.specs.Process.{check_of, with_row, sheet_of, or_empty, Makes};
 ghost use Rattle.files.specs.Rows.{answer_of};
 
@@ -33,7 +34,8 @@ impl Intake for Anything {
 
 /// Puts the questions of the file layer to a process file.
 pub fn check_process(file: &[u8]) -> Result<(), Fault>
-    ensures { result ≡ check_of file.now }
+    ensures value { result ≡ check_of file.now }
+    ensures own { IfErr result (λ fault. number_of fault.refusal ≤ 7) }
 {
     take_all(&mut Anything, SourceFile::Process, file)
 }

@@ -1,10 +1,10 @@
 ghost use Rattle.std.specs.Prelude.{◌≡◌, map, length, take};
 ghost use Rattle.page.specs.Reports.{told as told_by};
-ghost use Rattle.page.specs.Rows.{row_as};
+ghost use Rattle.page.specs.Rows.{row_as, rows_in};
 ghost use Rattle.report.specs.Pages.{report_of};
 ghost use Rattle.linked.specs.Linked.{times_of, Tells};
 
-use page::page::{Report, Row, Rows};
+use page::page::{Outcome, Report, Row, Rows};
 use report::tell::tell;
 
 /// The times of one item, and its deadline.
@@ -46,8 +46,8 @@ impl From<&Row<'_>> for ToldTimes {
 
 /// Writes the times of the rows from the front on, and tells how many there are.
 fn fill(page: &Rows<'_>, times: &mut [ToldTimes; 64]) -> usize
-    ensures count { result ≡ length page.now }
-    ensures times { take result times.new ≡ map times_of page.now }
+    ensures count { result ≡ length (rows_in page.now) }
+    ensures times { take result times.new ≡ map times_of (rows_in page.now) }
 {
     let rows = page.as_slice();
     // Not a zip with `iter_mut`: of the values behind one in a chain a proof learns nothing.
@@ -60,22 +60,22 @@ fn fill(page: &Rows<'_>, times: &mut [ToldTimes; 64]) -> usize
 fn write(report: &Report<'_>, told: &mut Told)
     ensures { Tells told.new (told_by report.now) }
 {
-    match report {
-        Report::Settled { rows, steps } => {
+    match report.outcome {
+        Outcome::Settled { steps } => {
             told.outcome = 0;
-            told.count = fill(rows, &mut told.times);
-            told.steps = *steps;
+            told.count = fill(&report.rows, &mut told.times);
+            told.steps = steps;
         }
-        Report::Broken {
+        Outcome::Broken {
             name: _,
             cause: _,
             steps,
         } => {
             told.outcome = 1;
             told.count = 0;
-            told.steps = *steps;
+            told.steps = steps;
         }
-        Report::Refused(_) => {
+        Outcome::Refused(_) => {
             told.outcome = 2;
             told.count = 0;
             told.steps = 0;

@@ -1,9 +1,9 @@
 ghost use Rattle.std.specs.Prelude.{◌≡◌, Some};
-ghost use Rattle.page.specs.Rows.{row_as};
+ghost use Rattle.page.specs.Rows.{row_as, rows_in};
 ghost use Rattle.page.specs.Reports.{told};
 ghost use Rattle.page.specs.Texts.{row_text, table_text, page_text};
 
-use crate::page::{Report, Row, Rows};
+use crate::page::{Outcome, Report, Row, Rows};
 use std::fmt;
 
 impl<'a> fmt::Display for Row<'a> {
@@ -22,7 +22,7 @@ impl<'a> fmt::Display for Row<'a> {
 }
 
 impl<'a> fmt::Display for Rows<'a> {
-    ghost output = { λ rows. Some (table_text rows) };
+    ghost output = { λ p. Some (table_text (rows_in p)) };
 
     fn fmt<W: fmt::Write>(&self, f: &mut fmt::Formatter<W>) -> fmt::Result {
         writeln!(f, "item late wait end limit")?;
@@ -37,10 +37,10 @@ impl<'a> fmt::Display for Report<'a> {
     ghost output = { λ r. Some (page_text (told r)) };
 
     fn fmt<W: fmt::Write>(&self, f: &mut fmt::Formatter<W>) -> fmt::Result {
-        match self {
-            Report::Settled { rows, steps } => write!(f, "{rows}settled {steps}"),
-            Report::Broken { name, cause, steps } => write!(f, "broken {name} {cause} {steps}"),
-            Report::Refused(fault) => write!(f, "{fault}"),
+        match self.outcome {
+            Outcome::Settled { steps } => write!(f, "{}settled {steps}", self.rows),
+            Outcome::Broken { name, cause, steps } => write!(f, "broken {name} {cause} {steps}"),
+            Outcome::Refused(fault) => write!(f, "{fault}"),
         }
     }
 }

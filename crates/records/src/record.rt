@@ -1,4 +1,5 @@
-ghost use Rattle.std.specs.Prelude.{◌≡◌, ◌<◌, ◌≤◌, length, IfOk};
+ghost use Rattle.std.specs.Prelude.{◌≡◌, ◌<◌, ◌≤◌, length, IfOk, IfErr};
+ghost use Rattle.records.specs.Faults.{number_of};
 ghost use Rattle.records.specs.Kinds.{kind_of};
 ghost use Rattle.records.specs.Records.{arc_of, read_of, read_as, record_of, record_as};
 
@@ -79,6 +80,9 @@ fn read_arc(body: &[u8]) -> Result<Arc, Refusal>
 }
 
 /// What the body of a record of this kind says, in this file.
+// Inlined, as `first_record` and `Rows::next`: a record handed out through memory takes twice as long to
+// read as one that is used where it is made.
+#[inline(always)]
 fn read<'a>(file: SourceFile, kind: u16, body: &'a [u8]) -> Result<Record<'a>, Refusal>
     ensures { read_as result ≡ read_of file kind body.now }
 {
@@ -91,9 +95,11 @@ fn read<'a>(file: SourceFile, kind: u16, body: &'a [u8]) -> Result<Record<'a>, R
 }
 
 /// The record in front, and how many bytes it takes with its head.
+#[inline(always)]
 pub fn first_record<'a>(file: SourceFile, bytes: &'a [u8]) -> Result<(Record<'a>, usize), Refusal>
     ensures value { record_as result ≡ record_of file bytes.now }
     ensures within { IfOk result (λ p. (0 < p.1) × (p.1 ≤ length bytes.now)) }
+    ensures own { IfErr result (λ refusal. number_of refusal ≤ 7) }
 {
     let raw = cut(bytes).ok_or(Refusal::NotWhole)?;
     let record = read(file, raw.kind, raw.body)?;

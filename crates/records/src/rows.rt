@@ -42,6 +42,8 @@ impl<'a> Iterator for Rows<'a> {
 
     ghost remaining = { item_count rows_left };
 
+    // Inlined, as `first_record`.
+    #[inline(always)]
     fn next(&mut self) -> Option<Result<Row<'a>, Fault>> {
         let place = self.place;
         let rest = from_place(self.bytes, self.place);

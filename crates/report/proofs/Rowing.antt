@@ -15,10 +15,8 @@ use Rattle.report.specs.Pages.{row_of}
 use Rattle.report.specs.Truth.{Least, Truth, times_in}
 
 -- a row made of an item's line and deadline is its row
-pub row_is : (names : List (List ℕ)) (t : State) (k : ℕ) (name : List ℕ) (line : Line) (limit : ℕ) → name ≡ slice_index_or names k [] → line ≡ line_at t k → limit ≡ (item_at t line.number).deadline → row_with name line limit ≡ row_of names t k
+pub row_is : (names : List (List ℕ)) (t : State) (k : ℕ) (name : List ℕ) (line : Line) (limit : ℕ) → name ≡ slice_index_or names k [] → line ≡ line_at t k → limit ≡ (item_at t k).deadline → row_with name line limit ≡ row_of names t k
 row_is names t k name line limit named lined limited =
-    let number : line.number ≡ k = ap (λ (l : Line). l.number) lined in
-    let due : limit ≡ (item_at t k).deadline = limited ∙ ap (λ i. (item_at t i).deadline) number in
     let late = ap (λ (l : Line). l.late) lined in
     let wait = ap (λ (l : Line). l.wait) lined in
     let end = ap (λ (l : Line). l.end) lined in

@@ -6,11 +6,11 @@ ghost use Rattle.promise.specs.Runs.{run_of};
 ghost use Rattle.files.specs.Process.{sheet_of, or_empty, names_of};
 ghost use Rattle.page.specs.Pages.{rows_to};
 ghost use Rattle.page.specs.Reports.{told};
+ghost use Rattle.page.specs.Rows.{rows_in};
 ghost use Rattle.report.specs.Pages.{row_of, ran, over_of, means, cell_means, after, report_of};
 ghost use Rattle.report.specs.Truth.{Truth};
 ghost use Rattle.report.specs.Verdicts.{Reached, Verdict};
 
-use arrayvec::ArrayVec;
 use files::cell::make_bank;
 use files::names::names;
 use files::process::make_sheet;
@@ -42,16 +42,17 @@ fn lines<R: Rule>(sheet: &Sheet<R>) -> [Line; 64]
 /// The rows of a settled sheet whose items have their names in a process file.
 fn rows<'a, R: Rule>(sheet: &Sheet<R>, process: &'a [u8]) -> Rows<'a>
     requires settled { IsSettled (meaning R.Rule sheet.now.rule) sheet.now.table }
-    ensures { result ≡ rows_to (row_of (names_of process.now) sheet.now.table) (length sheet.now.table.items) }
+    ensures { rows_in result ≡ rows_to (row_of (names_of process.now) sheet.now.table) (length sheet.now.table.items) }
 {
     let lines = lines(sheet);
     let names = names(process);
-    // A loop: `collect` into a vector of fixed room answers a result, and this cannot fail.
-    let mut rows = ArrayVec::new();
-    for (line, name) in lines[..sheet.count()].iter().zip(&names) {
-        rows.push(Row::new(name, *line, limit(sheet, line.number)));
+    let count = sheet.count();
+    // An array and a loop by number: what is gathered in another way is copied into an array once more.
+    let mut rows = [Row::default(); 64];
+    for i in 0..count {
+        rows[i] = Row::new(names[i], lines[i], limit(sheet, i));
     }
-    Rows::from(rows)
+    Rows::new(rows, count)
 }
 
 /// An allowance that always decides.

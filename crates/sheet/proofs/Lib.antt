@@ -1,2 +1,3 @@
 pub mod None
 pub mod Unroll
+pub mod Padded

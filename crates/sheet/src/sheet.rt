@@ -1,6 +1,7 @@
 ghost use Rattle.std.specs.Prelude.{◌≡◌, ◌≤◌, length};
 ghost use Rattle.promise.specs.State.{meaning, empty};
 ghost use Rattle.promise.specs.Promise.{Promised};
+ghost use Rattle.sheet.specs.Tables.{Fit};
 
 use crate::table::Table;
 use model::rule::Rule;
@@ -12,6 +13,7 @@ pub struct Sheet<R: Rule> {
     pub(crate) rule: R,
     pub(crate) table: Table,
     ghost few: { length table.items ≤ 64 },
+    ghost fit: { Fit table },
 }
 
 impl<R: Rule> Sheet<R> {

@@ -3,6 +3,7 @@ ghost use Rattle.promise.specs.State.{meaning, item_at, times_at};
 ghost use Rattle.promise.specs.Steps.{judge as judge_of, by, written, broken_off, found, outcome, stepped};
 ghost use Rattle.promise.specs.Calls.{Call, step_ask, step_answer};
 ghost use Rattle.promise.specs.Promise.{Leaves};
+ghost use Rattle.sheet.specs.Tables.{Fit};
 
 use crate::ask::ask;
 use crate::sheet::Sheet;
@@ -40,9 +41,11 @@ impl Table {
 
     /// Judges the times that a step on item `i` found, and writes them or breaks off.
     fn apply(&mut self, i: usize, new: Found) -> Became
-        requires { i < length self.old.items }
+        requires inside { i < length self.old.items }
+        requires place { i < 64 }
         ensures answer { result ≡ judge_of (item_at self.old i) (times_at self.old i) new.times }
         ensures state { self.new ≡ by result (written self.old i new.times) (written self.old i new.times) (λ c. broken_off self.old) }
+        ensures fit { Fit self.new }
     {
         let became = self.judge(i, new);
         match became {

@@ -7,7 +7,6 @@ ghost use Rattle.promise.specs.Promise.{room};
 ghost use Rattle.promise.specs.Steps.{latest, written, broken_off};
 ghost use Rattle.sheet.specs.Tables.{Fit};
 
-use arrayvec::ArrayVec;
 use model::arc::Arc;
 use model::asked::Asked;
 use model::item::Item;
@@ -15,13 +14,16 @@ use model::times::Times;
 use std::marker::Model;
 
 /// What a sheet holds beside its rule; in a clause, the state that the calls speak of.
-// Not the table of the rules: one name, two things.
-#[derive(Drop)]
+// Not the table of the rules: one name, two things. Arrays with counts: a table is `Copy`, which a
+// vector of fixed room is not. What is not in use is blank, so that the state tells the whole table.
+#[derive(Clone, Copy)]
 pub struct Table {
-    items: ArrayVec<Item, 64>,
-    arcs: ArrayVec<Arc, 128>,
+    count: usize,
+    items: [Item; 64],
+    arc_count: usize,
+    arcs: [Arc; 128],
     // Beside the items: a set of times is a list of its own.
-    times: ArrayVec<Times, 64>,
+    times: [Times; 64],
     // A flag: the fourth part of the state, beside no value of its own.
     broken: bool,
 }
@@ -31,12 +33,35 @@ impl Model for Table {
 
     ghost Value = { State };
 
-    ghost use Rattle.sheet.specs.Tables.{state_of, Fit};
+    ghost use Rattle.sheet.specs.Tables.{state_of, table_of, Whole};
 
     ghost view = { state_of };
 
-    ghost invariant = { λ t. Fit (state_of t) };
+    ghost invariant = { Whole };
+
+    ghost inverse = { table_of };
+
+    ghost inverse_ok = { λ _ whole. whole.blank };
 }
+
+// What is not in use.
+const NO_ITEM: Item = Item {
+    class: 0,
+    station: 0,
+    mark: 0,
+    priority: 0,
+    queue: 0,
+    size: 0,
+    period: 0,
+    duration: 0,
+    held: 0,
+    offset: 0,
+    deadline: 0,
+};
+
+const NO_ARC: Arc = Arc { from: 0, to: 0 };
+
+const NO_TIMES: Times = Times { late: 0, wait: 0 };
 
 /// How much late and wait of an item may come to.
 fn slack(item: &Item) -> u32
@@ -50,33 +75,37 @@ fn slack(item: &Item) -> u32
 impl Table {
     /// A table with nothing in it.
     pub(crate) fn empty() -> Table
-        ensures { result ≡ empty }
+        ensures value { result ≡ empty }
+        ensures fit { Fit result }
     {
         Table {
-            items: ArrayVec::new(),
-            arcs: ArrayVec::new(),
-            times: ArrayVec::new(),
+            count: 0,
+            items: [NO_ITEM; 64],
+            arc_count: 0,
+            arcs: [NO_ARC; 128],
+            times: [NO_TIMES; 64],
             broken: false,
         }
     }
 
     pub(crate) fn items(&self) -> &[Item]
         ensures value { result.now ≡ self.now.items }
+        ensures few { length result.now ≤ 64 }
         ensures fit { Fit self.now }
     {
-        self.items.as_slice()
+        &self.items[..self.count]
     }
 
     pub(crate) fn arcs(&self) -> &[Arc]
         ensures { result.now ≡ self.now.arcs }
     {
-        self.arcs.as_slice()
+        &self.arcs[..self.arc_count]
     }
 
     pub(crate) fn times(&self) -> &[Times]
         ensures { result.now ≡ self.now.times }
     {
-        self.times.as_slice()
+        &self.times[..self.count]
     }
 
     pub(crate) fn is_broken(&self) -> bool
@@ -93,17 +122,18 @@ impl Table {
         ensures i { result.i ≡ i }
     {
         Asked {
-            items: self.items.as_slice(),
-            times: self.times.as_slice(),
+            items: self.items(),
+            times: self.times(),
             i,
         }
     }
 
     /// Sets all times back, and makes the table unbroken.
     fn reset(&mut self)
-        ensures { self.new ≡ fresh self.old.items self.old.arcs }
+        ensures value { self.new ≡ fresh self.old.items self.old.arcs }
+        ensures fit { Fit self.new }
     {
-        self.times.as_mut_slice().fill(Times::default());
+        self.times = [NO_TIMES; 64];
         self.broken = false;
     }
 
@@ -111,11 +141,12 @@ impl Table {
     pub(crate) fn push(&mut self, item: Item)
         requires room { length self.old.items < 64 }
         requires valid { Valid item }
-        ensures { self.new ≡ fresh (self.old.items ++ (item ∷ [])) self.old.arcs }
+        ensures value { self.new ≡ fresh (self.old.items ++ (item ∷ [])) self.old.arcs }
+        ensures fit { Fit self.new }
     {
-        self.items.push(item);
-        self.times.push(Times::default());
         self.reset();
+        self.items[self.count] = item;
+        self.count += 1;
     }
 
     /// Adds an arc, and sets all times back.
@@ -123,39 +154,47 @@ impl Table {
         requires room { length self.old.arcs < 128 }
         requires start { from < length self.old.items }
         requires end { to < length self.old.items }
-        ensures { self.new ≡ fresh self.old.items (self.old.arcs ++ (joined from to ∷ [])) }
+        ensures value { self.new ≡ fresh self.old.items (self.old.arcs ++ (joined from to ∷ [])) }
+        ensures fit { Fit self.new }
     {
+        let place = self.arc_count;
         // Cast: there are at most 64 items, so nothing is lost, and `try_from` would add an error that
         // never comes.
-        self.arcs.push(Arc {
+        self.arcs[place] = Arc {
             from: from as u8,
             to: to as u8,
-        });
+        };
+        self.arc_count = place + 1;
         self.reset();
     }
 
     /// Replaces the record of item `i`, and sets all times back.
     pub(crate) fn replace(&mut self, i: usize, item: Item)
         requires inside { i < length self.old.items }
+        requires place { i < 64 }
         requires valid { Valid item }
-        ensures { self.new ≡ fresh (slice_set self.old.items i item) self.old.arcs }
+        ensures value { self.new ≡ fresh (slice_set self.old.items i item) self.old.arcs }
+        ensures fit { Fit self.new }
     {
-        self.items.as_mut_slice()[i] = item;
+        self.items[i] = item;
         self.reset();
     }
 
     /// Writes the times of item `i`, which end it within its deadline.
     pub(crate) fn write(&mut self, i: usize, new: Times)
         requires inside { i < length self.old.items }
+        requires place { i < 64 }
         requires in_time { end_of (item_at self.old i) new ≤ (item_at self.old i).deadline }
-        ensures { self.new ≡ written self.old i new }
+        ensures value { self.new ≡ written self.old i new }
+        ensures fit { Fit self.new }
     {
-        self.times.as_mut_slice()[i] = new;
+        self.times[i] = new;
     }
 
     /// Marks the table as broken, and touches no time.
     pub(crate) fn break_off(&mut self)
-        ensures { self.new ≡ broken_off self.old }
+        ensures value { self.new ≡ broken_off self.old }
+        ensures fit { Fit self.new }
     {
         self.broken = true;
     }
@@ -175,7 +214,7 @@ impl Table {
         ensures value { result ≡ room self.now }
         ensures small { result ≤ 64000000 }
     {
-        let items = self.items.as_slice();
+        let items = self.items();
         items.iter().map(|item| u64::from(slack(item))).sum()
     }
 
@@ -187,7 +226,7 @@ impl Table {
     {
         let mut late = self.ask(i).mine().item.offset;
         // A loop and no `fold`: each end keeps its own bound, by the arc's start that is there.
-        for arc in self.arcs.as_slice() {
+        for arc in &self.arcs[..self.arc_count] {
             if usize::from(arc.to) == i {
                 late = late.max(self.end(usize::from(arc.from)));
             }

@@ -1,4 +1,4 @@
-use Rattle.std.proofs.Common.{◌≡◌, ◌-◌, ◌*◌, ◌≤◌, List, length, sum_by, sym, subst, arith, rules}
+use Rattle.std.proofs.Common.{◌≡◌, ◌-◌, ◌≤◌, List, sum_by, sym, subst, arith, rules}
 use Rattle.std.proofs.lemmas.List.{get_or_default}
 use Rattle.std.proofs.lemmas.List.Sums.{sum_by-le}
 use Rattle.model.specs.declared.item.Item.{Item}
@@ -11,11 +11,8 @@ slack_small x y e v = subst (λ (z : Item). z.deadline - z.duration ≤ 1000000)
 
 pub returns-clause-small : goal.returns-clause-small
 returns-clause-small c =
-    let items : List Item = c.as_slice-items.result.now in
-    let held : List Item = c.self.inside.items.items in
-    let same : items ≡ held = c.as_slice-items.ensures.value in
-    let few : length items ≤ 64 = c.as_slice-items.ensures.fits in
+    let items : List Item = c.args.self.now.items in
+    let fit = c.items-items.ensures.fit in
     let sum : c.sum.result ≡ sum_by (λ (x : Item). x.deadline - x.duration) items = search rules in
-    let low = sum_by-le (λ (x : Item). x.deadline - x.duration) 1000000 held (λ k d l. slack_small _ _ (get_or_default held k d no_item l) (c.self.invariant.handed.valid k l)) in
-    let low' = subst (λ (xs : List Item). sum_by (λ (x : Item). x.deadline - x.duration) xs ≤ length xs * 1000000) (sym same) low in
-    omega (arith, sum, low', few)
+    let low = sum_by-le (λ (x : Item). x.deadline - x.duration) 1000000 items (λ k d l. slack_small _ _ (get_or_default items k d no_item l) (fit.handed.valid k l)) in
+    omega (arith, sum, low, fit.handed.few)
